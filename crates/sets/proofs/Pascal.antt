@@ -1,0 +1,105 @@
+-- Pascal's rule over a whole table of counts, by one test that antt computes, row by row.
+--     follows left us vs    in the row vs each entry is the sum of the one above it, in us, and of that one's left neighbour
+--     rows m row rest       m more rows of eight follow `row`, each by the rule
+--     pascal table          the first row is 1, 0, .. 0, and 512 more follow
+--     pascal-counts         a table that passes the test holds the counts
+use Prim.Native.Nat.{ℕ, zero, suc, _+_, _*_, _≤_, _<_}
+use native.Mathlib.Nat.{add-zero, zero-add, mul-zero, mul-suc, not-suc-le-zero, le-of-suc-le-suc}
+use native.Mathlib.Omega.{arith}
+use mathlib.Core.Path.{_≡_, refl, sym, _∙_, ap, ap₂, subst}
+use mathlib.Core.Bool.{Bool, true, false, _&&_, true≢false}
+use mathlib.Core.List.{List, [], _∷_, _++_}
+use borrow.Author.Tests.{eqb-true}
+use lib.Dec.{eqb}
+use lib.ListN.{length, getD, take, drop, take-append-drop, List·getD-append, replicate, getD-replicate}
+use Rattle.sets.specs.Order.{binom, same}
+use Rattle.sets.specs.Counts.{Counts}
+use Rattle.sets.proofs.Lists.{and-left, and-right, same-true, getD-second}
+use Rattle.sets.proofs.Revolving.{binom-zero, binom-none, binom-suc}
+
+abbrev follows : ℕ → List ℕ → List ℕ → Bool
+follows left [] [] = true
+follows left [] (v ∷ vs) = false
+follows left (u ∷ us) [] = false
+follows left (u ∷ us) (v ∷ vs) = eqb v (u + left) && follows u us vs
+
+abbrev rows : ℕ → List ℕ → List ℕ → Bool
+rows zero row rest = true
+rows (suc m) row rest = follows 0 row (take 8 rest) && rows m (take 8 rest) (drop 8 rest)
+
+abbrev firstRow : List ℕ
+firstRow = 1 ∷ replicate 7 0
+
+abbrev pub pascal : List ℕ → Bool
+pascal table = same (take 8 table) firstRow && rows 512 (take 8 table) (drop 8 table)
+
+follows-length : (left : ℕ) (us vs : List ℕ) → follows left us vs ≡ true → length vs ≡ length us
+follows-length left [] [] e = refl
+follows-length left [] (v ∷ vs) e = absurd (true≢false (sym e))
+follows-length left (u ∷ us) [] e = absurd (true≢false (sym e))
+follows-length left (u ∷ us) (v ∷ vs) e = ap suc (follows-length u us vs (and-right (eqb v (u + left)) (follows u us vs) e))
+
+-- what a row holds, column by column
+abbrev Holds : List ℕ → (ℕ → ℕ) → Type 0
+Holds row g = (k : ℕ) → k < length row → getD row k 0 ≡ g k
+
+-- the entry to the left of column k, where left stands before the row
+abbrev before : ℕ → (ℕ → ℕ) → ℕ → ℕ
+before left g zero = left
+before left g (suc k) = g k
+
+follows-holds : (left : ℕ) (g : ℕ → ℕ) (us vs : List ℕ) → follows left us vs ≡ true → Holds us g → Holds vs (λ k. g k + before left g k)
+follows-holds left g [] [] e h k p = absurd (not-suc-le-zero p)
+follows-holds left g [] (v ∷ vs) e h k p = absurd (true≢false (sym e))
+follows-holds left g (u ∷ us) [] e h k p = absurd (true≢false (sym e))
+follows-holds left g (u ∷ us) (v ∷ vs) e h zero p =
+    eqb-true v (u + left) (and-left (eqb v (u + left)) (follows u us vs) e) ∙ ap (λ (m : ℕ). m + left) (h 0 (omega arith))
+follows-holds left g (u ∷ us) (v ∷ vs) e h (suc k) p =
+    follows-holds u (λ i. g (suc i)) us vs (and-right (eqb v (u + left)) (follows u us vs) e)
+    (λ i q. h (suc i) (omega arith)) k (le-of-suc-le-suc p)
+    ∙ ap (λ (m : ℕ). g (suc k) + m) (shifted k)
+  where
+    shifted : (k : ℕ) → before u (λ i. g (suc i)) k ≡ g k
+    shifted zero = h 0 (omega arith)
+    shifted (suc k) = refl
+
+-- the rule takes a row of counts to the next
+binom-before : (n k : ℕ) → binom n k + before 0 (binom n) k ≡ binom (suc n) k
+binom-before n zero = omega (arith, binom-zero n, binom-zero (suc n))
+binom-before n (suc k) = sym (binom-suc n k)
+
+rows-hold : (m n : ℕ) (row rest : List ℕ) → rows m row rest ≡ true → length row ≡ 8 → Holds row (binom n) →
+    (i k : ℕ) → i ≤ m → k ≤ 7 → getD (row ++ rest) (8 * i + k) 0 ≡ binom (n + i) k
+rows-hold m n row rest e long h zero k p q =
+    let at : 8 * 0 + k ≡ k = omega arith in
+    ap (λ (j : ℕ). getD (row ++ rest) j 0) at
+    ∙ List·getD-append row rest 0 k (omega arith)
+    ∙ h k (omega arith)
+    ∙ ap (λ (j : ℕ). binom j k) (sym (add-zero n))
+rows-hold zero n row rest e long h (suc i) k p q = absurd (not-suc-le-zero p)
+rows-hold (suc m) n row rest e long h (suc i) k p q =
+    let next = take 8 rest in
+    let more = drop 8 rest in
+    let now : follows 0 row next ≡ true = and-left (follows 0 row next) (rows m next more) e in
+    let at : length row + (8 * i + k) ≡ 8 * suc i + k = omega arith in
+    let shift : suc n + i ≡ n + suc i = omega arith in
+    getD-second row rest (8 * suc i + k) (8 * i + k) 0 at
+    ∙ ap (λ (l : List ℕ). getD l (8 * i + k) 0) (sym (take-append-drop 8 rest))
+    ∙ rows-hold m (suc n) next more (and-right (follows 0 row next) (rows m next more) e)
+    (follows-length 0 row next now ∙ long)
+    (λ j r. follows-holds 0 (binom n) row next now h j r ∙ binom-before n j)
+    i k (le-of-suc-le-suc p) q
+    ∙ ap (λ (j : ℕ). binom j k) shift
+
+first-holds : Holds firstRow (binom 0)
+first-holds zero p = sym (binom-zero 0)
+first-holds (suc k) p = getD-replicate 7 k 0 0 (le-of-suc-le-suc p) ∙ sym (binom-none k)
+
+pub pascal-counts : (table : List ℕ) → pascal table ≡ true → Counts table
+unfolding Counts
+pascal-counts table e n k p q =
+    let first : take 8 table ≡ firstRow = same-true (take 8 table) firstRow (and-left (same (take 8 table) firstRow) (rows 512 (take 8 table) (drop 8 table)) e) in
+    ap (λ (l : List ℕ). getD l (8 * n + k) 0) (sym (take-append-drop 8 table))
+    ∙ rows-hold 512 0 (take 8 table) (drop 8 table) (and-right (same (take 8 table) firstRow) (rows 512 (take 8 table) (drop 8 table)) e)
+    (ap length first) (subst (λ (l : List ℕ). Holds l (binom 0)) (sym first) first-holds) n k p q
+    ∙ ap (λ (j : ℕ). binom j k) (zero-add n)

@@ -1,0 +1,45 @@
+-- `sets::rank_from_set` meets its contract: each refusal where its test is the first to fail, else the rank.
+-- Assumes nothing.
+use mathlib.Core.Path.{sym, _∙_}
+use borrow.Author.Tests.{lt-ltb, le-ltb, not-true, not-false}
+use borrow.Author.Needs.{needs}
+use Rattle.sets.proofs.rank_from_set.Statement.{statement}
+use Rattle.sets.proofs.rank_from_set.Tie as tie
+
+returns : tie.Need-returns
+returns c = simp (lt-ltb _ _ (c .if1 .taken))
+
+returns-2 : tie.Need-returns-2
+returns-2 c = simp (le-ltb _ _ (c .before .if1 .left), lt-ltb _ _ (c .if2 .taken))
+
+is-rising-requires : tie.Need-is-rising-requires
+is-rising-requires c κs = search needs
+
+returns-3 : tie.Need-returns-3
+returns-3 c = simp (le-ltb _ _ (c .before .before .before .if1 .left), le-ltb _ _ (c .before .before .if2 .left), sym (c .before .is-rising .ensures) ∙ not-true _ (c .if3 .taken))
+
+counts-requires : tie.Need-counts-requires
+counts-requires c κs = search needs
+
+rank-requires : tie.Need-rank-requires
+rank-requires c κs =
+    let rising = sym (c .before .before .before .is-rising .ensures) ∙ not-false _ (c .before .before .if3 .left) in
+    (c .before .counts .ensures, (search needs, search needs, rising))
+
+returns-4 : tie.Need-returns-4
+returns-4 c =
+    let p = c .before .before .before in
+    simp
+    (le-ltb _ _ (p .before .before .before .if1 .left), le-ltb _ _ (p .before .before .if2 .left), sym (p .before .is-rising .ensures) ∙ not-false _ (p .if3 .left), c .rank .ensures)
+
+pub rank-from-set-spec : {M : Type 1} → statement M
+rank-from-set-spec =
+    tie.close
+    (tie.spec
+    returns
+    returns-2
+    is-rising-requires
+    returns-3
+    counts-requires
+    rank-requires
+    returns-4)

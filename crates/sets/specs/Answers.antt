@@ -1,0 +1,97 @@
+-- Each answer of `sets` in the scope's own numbers, and what each entry answers (scope, "Numbering and dividing" and
+-- "What each operation turns down").
+--     Told                the values of an answer, or the number of a refusal
+--     Lent                what is told, with what the lent buffer then holds
+--     refusalNumber       the scope's number of each refusal
+--     countTold, setTold, rankTold, jobTold            what each answer of the code tells
+--     maxWires, maxSize, maxJobs                       the limits
+--     setCount, setFromRank, rankFromSet, jobRanks     what each entry is to tell
+use Prim.Native.Nat.{ℕ, suc}
+use mathlib.Core.Bool.{Bool, cond, _&&_, _||_, not}
+use mathlib.Core.List.{List, [], _∷_, _++_}
+use lib.Dec.{ltb, leb, eqb}
+use lib.ListN.{length, drop}
+use Rattle.sets.specs.Order.{binom, setAt, rankOf, rising, below}
+use Rattle.sets.specs.Division.{start}
+use Rattle.sets.specs.declared.Refusal.{Refusal}
+use Rattle.sets.specs.declared.Refusal.the-variants.{TooManyWires, SizeTooLarge, BufferTooShort, RankTooLarge, NoSuchJob, NotASet}
+use Rattle.sets.specs.declared.CountAnswer.{CountAnswer}
+use Rattle.sets.specs.declared.SetAnswer.{SetAnswer}
+use Rattle.sets.specs.declared.RankAnswer.{RankAnswer}
+use Rattle.sets.specs.declared.JobAnswer.{JobAnswer}
+
+pub data Told : Type 0 where
+  values : List ℕ → Told
+  refusal : ℕ → Told
+
+pub record Lent : Type 0 where
+  pub told : Told
+  pub held : List ℕ
+
+abbrev pub refusalNumber : Refusal → ℕ
+refusalNumber TooManyWires = 12
+refusalNumber SizeTooLarge = 17
+refusalNumber BufferTooShort = 16
+refusalNumber RankTooLarge = 18
+refusalNumber NoSuchJob = 19
+refusalNumber NotASet = 21
+
+abbrev pub countTold : CountAnswer → Told
+countTold (CountAnswer.Sets sets) = values (sets ∷ [])
+countTold (CountAnswer.Refused why) = refusal (refusalNumber why)
+
+abbrev pub setTold : SetAnswer → List ℕ → Lent
+setTold SetAnswer.Written held = record { told = values []; held = held }
+setTold (SetAnswer.Refused why) held = record { told = refusal (refusalNumber why); held = held }
+
+abbrev pub rankTold : RankAnswer → Told
+rankTold (RankAnswer.Rank rank) = values (rank ∷ [])
+rankTold (RankAnswer.Refused why) = refusal (refusalNumber why)
+
+abbrev pub jobTold : JobAnswer → Told
+jobTold (JobAnswer.Ranks from to) = values (from ∷ to ∷ [])
+jobTold (JobAnswer.Refused why) = refusal (refusalNumber why)
+
+abbrev pub maxWires : ℕ
+maxWires = 512
+
+abbrev pub maxSize : ℕ
+maxSize = 7
+
+abbrev pub maxJobs : ℕ
+maxJobs = 65536
+
+-- a size above the wires has count 0
+abbrev pub setCount : ℕ → ℕ → Told
+setCount wires size =
+    cond (ltb maxWires wires) (refusal 12)
+    (cond (ltb maxSize size) (refusal 17)
+    (values (binom wires size ∷ [])))
+
+-- a refusal leaves the buffer as it was
+abbrev pub turnedDown : ℕ → List ℕ → Lent
+turnedDown number buffer = record { told = refusal number; held = buffer }
+
+-- the set stands at the buffer's start, and what lies past it is as it was
+abbrev pub setFromRank : ℕ → ℕ → ℕ → List ℕ → Lent
+setFromRank wires size rank buffer =
+    cond (ltb maxWires wires) (turnedDown 12 buffer)
+    (cond (ltb maxSize size) (turnedDown 17 buffer)
+    (cond (ltb (length buffer) size) (turnedDown 16 buffer)
+    (cond (leb (binom wires size) rank) (turnedDown 18 buffer)
+    (record { told = values []; held = setAt wires size rank ++ drop size buffer }))))
+
+abbrev pub rankFromSet : ℕ → List ℕ → Told
+rankFromSet wires set =
+    cond (ltb maxWires wires) (refusal 12)
+    (cond (ltb maxSize (length set)) (refusal 17)
+    (cond (not (rising set && below wires set)) (refusal 21)
+    (values (rankOf wires set ∷ []))))
+
+-- from the first rank up to, without, the second
+abbrev pub jobRanks : ℕ → ℕ → ℕ → ℕ → Told
+jobRanks wires size job jobs =
+    cond (ltb maxWires wires) (refusal 12)
+    (cond (ltb maxSize size) (refusal 17)
+    (cond (eqb jobs 0 || ltb maxJobs jobs || leb jobs job) (refusal 19)
+    (values (start (binom wires size) jobs job ∷ start (binom wires size) jobs (suc job) ∷ []))))

@@ -1,0 +1,137 @@
+// The numbering of wire sets: how many sets of a size there are, the set at a rank, the rank of a set, and the ranks of
+// a job (scope, "Numbering and dividing"). Every argument may be anything its type holds: what is out of range is refused,
+// in the scope's order, and a refusal alters no lent number.
+ghost use mathlib.Core.Path.{_≡_};
+ghost use Prim.Native.Nat.{_*_, _/_, _≤_, _<_};
+ghost use Rattle.sets.specs.Answers.{countTold, setTold, rankTold, jobTold, setCount, setFromRank, rankFromSet, jobRanks};
+ghost use Rattle.sets.specs.Division.{start};
+
+mod counts;
+pub mod order;
+
+pub const MAX_WIRES: usize = 512;
+
+pub const MAX_SIZE: usize = 7;
+
+pub const MAX_JOBS: u64 = 65536;
+
+// Why an entry turns its arguments down. The scope's numbers: 12, 17, 16, 18, 19, 21.
+pub enum Refusal {
+    TooManyWires,
+    SizeTooLarge,
+    BufferTooShort,
+    RankTooLarge,
+    NoSuchJob,
+    NotASet,
+}
+
+pub enum CountAnswer {
+    Sets(u64),
+    Refused(Refusal),
+}
+
+pub enum SetAnswer {
+    Written,
+    Refused(Refusal),
+}
+
+pub enum RankAnswer {
+    Rank(u64),
+    Refused(Refusal),
+}
+
+// The ranks from one up to, without, the other.
+pub enum JobAnswer {
+    Ranks { from: u64, to: u64 },
+    Refused(Refusal),
+}
+
+// How many sets of `size` out of `wires` wires there are.
+pub fn set_count(wires: usize, size: usize) -> CountAnswer
+    ensures { λ r. ⌜ countTold r ≡ setCount wires size ⌝ }
+{
+    if MAX_WIRES < wires {
+        return CountAnswer::Refused(Refusal::TooManyWires);
+    }
+    if MAX_SIZE < size {
+        return CountAnswer::Refused(Refusal::SizeTooLarge);
+    }
+    let counts = order::counts();
+    CountAnswer::Sets(order::count(&counts, wires, size))
+}
+
+// Writes the set at a rank, rising, at the start of `set`.
+pub fn set_from_rank(wires: usize, size: usize, rank: u64, set: &mut [u16]) -> SetAnswer
+    ensures { λ r. ⌜ setTold r (now (set .exit)) ≡ setFromRank wires size rank (now (set .entry)) ⌝ }
+{
+    if MAX_WIRES < wires {
+        return SetAnswer::Refused(Refusal::TooManyWires);
+    }
+    if MAX_SIZE < size {
+        return SetAnswer::Refused(Refusal::SizeTooLarge);
+    }
+    if set.len() < size {
+        return SetAnswer::Refused(Refusal::BufferTooShort);
+    }
+    let counts = order::counts();
+    if order::count(&counts, wires, size) <= rank {
+        return SetAnswer::Refused(Refusal::RankTooLarge);
+    }
+    order::unrank(&counts, wires, size, rank, set);
+    SetAnswer::Written
+}
+
+// The rank of a set among the sets of its size.
+pub fn rank_from_set(wires: usize, set: &[u16]) -> RankAnswer
+    ensures { λ r. ⌜ rankTold r ≡ rankFromSet wires (now (set .entry)) ⌝ }
+{
+    if MAX_WIRES < wires {
+        return RankAnswer::Refused(Refusal::TooManyWires);
+    }
+    if MAX_SIZE < set.len() {
+        return RankAnswer::Refused(Refusal::SizeTooLarge);
+    }
+    if !order::is_rising(wires, set) {
+        return RankAnswer::Refused(Refusal::NotASet);
+    }
+    let counts = order::counts();
+    RankAnswer::Rank(order::rank(&counts, wires, set))
+}
+
+// The ranks that job number `job` of `jobs` has to visit.
+pub fn job(wires: usize, size: usize, job: u64, jobs: u64) -> JobAnswer
+    ensures { λ r. ⌜ jobTold r ≡ jobRanks wires size job jobs ⌝ }
+{
+    if MAX_WIRES < wires {
+        return JobAnswer::Refused(Refusal::TooManyWires);
+    }
+    if MAX_SIZE < size {
+        return JobAnswer::Refused(Refusal::SizeTooLarge);
+    }
+    if jobs == 0 {
+        return JobAnswer::Refused(Refusal::NoSuchJob);
+    }
+    if MAX_JOBS < jobs {
+        return JobAnswer::Refused(Refusal::NoSuchJob);
+    }
+    if jobs <= job {
+        return JobAnswer::Refused(Refusal::NoSuchJob);
+    }
+    let counts = order::counts();
+    let all = order::count(&counts, wires, size);
+    JobAnswer::Ranks {
+        from: first_rank(all, jobs, job),
+        to: first_rank(all, jobs, job + 1),
+    }
+}
+
+// The floor of i × all / jobs. The product passes 64 bits, so the quotient is put together from that of `all` and what
+// its rest adds.
+fn first_rank(all: u64, jobs: u64, i: u64) -> u64
+    requires { ⌜ (0 < jobs) × (jobs ≤ 65536) × (i ≤ jobs) ⌝ }
+    ensures { λ r. ⌜ r ≡ start all jobs i ⌝ }
+{
+    let whole = all / jobs;
+    let rest = all % jobs;
+    i * whole + i * rest / jobs
+}

@@ -1,0 +1,100 @@
+// The order behind the entries: the counts, the set at a rank, the rank of a set. These functions ask what the
+// entries have tested, and take the table of counts from their caller, who holds it once for many calls.
+ghost use mathlib.Core.Path.{_≡_};
+ghost use mathlib.Core.Bool.{true, _&&_};
+ghost use mathlib.Core.List.{_++_};
+ghost use Prim.Native.Nat.{_+_, _≤_, _<_};
+ghost use lib.ListN.{length, drop};
+ghost use Rattle.sets.specs.Order.{binom, setAt, rankOf, rising, below};
+ghost use Rattle.sets.specs.Counts.{Counts, TopWire};
+use crate::counts::COUNTS;
+
+// The table of counts. It is built anew at each call: hold it.
+pub fn counts() -> [u64; 4104]
+    ensures { λ r. ⌜ Counts r ⌝ }
+{
+    COUNTS
+}
+
+// The number of sets of k out of n wires.
+pub fn count(counts: &[u64; 4104], n: usize, k: usize) -> u64
+    requires { ⌜ Counts (now counts) ⌝ }
+    requires { ⌜ (n ≤ 512) × (k ≤ 7) ⌝ }
+    ensures { λ r. ⌜ r ≡ binom n k ⌝ }
+{
+    counts[8 * n + k]
+}
+
+// The highest wire of the set at rank r: sets of k out of `wire` wires end at or before r, those out of one more after it.
+fn top_wire(counts: &[u64; 4104], n: usize, k: usize, r: u64) -> usize
+    requires { ⌜ Counts (now counts) ⌝ }
+    requires { ⌜ (n ≤ 512) × (k ≤ 7) × (0 < k) × (r < binom n k) ⌝ }
+    ensures { λ wire. ⌜ TopWire n k r wire ⌝ }
+{
+    let mut low = 0;
+    let mut high = n;
+    while 1 < high - low {
+        let middle = low + (high - low) / 2;
+        if count(counts, middle, k) <= r {
+            low = middle;
+        } else {
+            high = middle;
+        }
+    }
+    low
+}
+
+// Writes the set at a rank, rising, at the start of `set`, and nothing past it. The highest wire comes first: below it
+// stand the sets of one wire less, in reverse.
+pub fn unrank(counts: &[u64; 4104], wires: usize, size: usize, rank: u64, set: &mut [u16])
+    requires { ⌜ Counts (now counts) ⌝ }
+    requires { ⌜ (wires ≤ 512) × (size ≤ 7) × (size ≤ length (now set)) × (rank < binom wires size) ⌝ }
+    ensures { λ _. ⌜ now (set .exit) ≡ setAt wires size rank ++ drop size (now (set .entry)) ⌝ }
+{
+    let mut n = wires;
+    let mut left = size;
+    let mut r = rank;
+    while 0 < left {
+        let wire = top_wire(counts, n, left, r);
+        r = count(counts, wire + 1, left) - 1 - r;
+        left -= 1;
+        set[left] = wire as u16;
+        n = wire;
+    }
+}
+
+// Whether the wires are strictly rising and of a table of n.
+pub fn is_rising(n: usize, set: &[u16]) -> bool
+    ensures { λ r. ⌜ r ≡ (rising (now (set .entry)) && below n (now (set .entry))) ⌝ }
+{
+    let mut next = 0;
+    let mut i = 0;
+    while i < set.len() {
+        let wire = set[i] as usize;
+        if wire < next {
+            return false;
+        }
+        if n <= wire {
+            return false;
+        }
+        next = wire + 1;
+        i += 1;
+    }
+    true
+}
+
+// The rank of a set of n wires, worked out from its lowest wire up.
+pub fn rank(counts: &[u64; 4104], n: usize, set: &[u16]) -> u64
+    requires { ⌜ Counts (now counts) ⌝ }
+    requires { ⌜ (n ≤ 512) × (length (now set) ≤ 7) × ((rising (now set) && below n (now set)) ≡ true) ⌝ }
+    ensures { λ r. ⌜ r ≡ rankOf n (now (set .entry)) ⌝ }
+{
+    let mut r = 0;
+    let mut i = 0;
+    while i < set.len() {
+        let wire = set[i] as usize;
+        r = count(counts, wire + 1, i + 1) - 1 - r;
+        i += 1;
+    }
+    r
+}
