@@ -3,10 +3,11 @@
 --     start-parts, start-within, whole-within, rest-within     the quotient in parts that fit a word, and their bounds
 --     shares-add-up      the jobs' shares add up to the count
 --     jobs-joined        the jobs' sets, one job after the other, are the published list
+--     job-of-rank, one-job, rank-counted     every rank below the count, and no other, is in exactly one job
 --     visited-once       every set is visited by exactly one job, at exactly one rank of it
 use Prim.Native.Nat.{ℕ, zero, suc, _+_, _-_, _*_, _/_, _%_, _≤_, _<_}
-use native.Mathlib.Nat.{mod-lt, mul-le-mul, mul-add-div-right, mul-assoc, mul-add, div-add-mod', zero-mul, zero-div, mul-comm, mul-div-cancel-left, suc-mul, le-div-iff-mul-le, div-mul-le-self, le-trans, le-of-suc-le-suc, not-suc-le-zero, eq-or-lt-of-le, mul-le-mul-right}
-use native.Mathlib.Decide.{decLe}
+use native.Mathlib.Nat.{mod-lt, mul-le-mul, mul-add-div-right, mul-assoc, mul-add, div-add-mod', zero-mul, zero-div, mul-comm, mul-div-cancel-left, suc-mul, le-div-iff-mul-le, div-mul-le-self, le-refl, le-trans, le-of-suc-le-suc, not-suc-le-zero, eq-or-lt-of-le, mul-le-mul-right}
+use native.Mathlib.Decide.{decLt}
 use native.Mathlib.Omega.{arith}
 use mathlib.Core.Path.{_≡_, refl, sym, _∙_, ap, ap₂, subst}
 use mathlib.Core.Logic.{_⊎_, inl, inr}
@@ -14,10 +15,9 @@ use mathlib.Core.Bool.{Bool, true}
 use mathlib.Core.List.{List, [], _∷_, _++_}
 use lib.ListN.{length, take, drop}
 use lib.Seq.{take-add, take-all}
-use Rattle.sets.specs.Order.{binom, revolving, isSet, timesIn}
-use Rattle.sets.specs.Division.{start, share, total, visited, joined, OnlyOne}
-use Rattle.sets.proofs.Lists.{times-append, oneIf}
-use Rattle.sets.proofs.Revolving.{revolving-length, revolving-once}
+use Rattle.sets.specs.Order.{binom, revolving, setAt, rankOf, isSet}
+use Rattle.sets.specs.Division.{start, share, total, visited, joined, HasRank, VisitedOnce}
+use Rattle.sets.proofs.Revolving.{revolving-length, set-of-rank, rank-unique}
 
 pub start-zero : (all jobs : ℕ) → start all jobs 0 ≡ 0
 start-zero all jobs = ap (λ (m : ℕ). m / jobs) (zero-mul all) ∙ zero-div jobs
@@ -82,44 +82,53 @@ module _ (n k jobs : ℕ) (h : 0 < jobs) where
       ∙ ap (λ (m : ℕ). take m (revolving n k)) (start-all (binom n k) jobs h)
       ∙ take-all (binom n k) (revolving n k) (omega (arith, revolving-length n k))
 
-times-joined : (s : List ℕ) (j : ℕ) (f : ℕ → List (List ℕ)) → timesIn s (joined j f) ≡ total j (λ i. timesIn s (f i))
-times-joined s zero f = refl
-times-joined s (suc j) f = times-append s (joined j f) (f j) ∙ ap (λ (m : ℕ). m + timesIn s (f j)) (times-joined s j f)
-
-at-last : (f : ℕ → ℕ) (j i : ℕ) → (i ≡ j) ⊎ (i < j) → f j ≡ 0 → (i < j → f i ≡ 0) → f i ≡ 0
-at-last f j i (inl q) e before = ap f q ∙ e
-at-last f j i (inr q) e before = before q
-
-none-of-all : (f : ℕ → ℕ) (j : ℕ) → total j f ≡ 0 → (i : ℕ) → i < j → f i ≡ 0
-none-of-all f zero e i p = absurd (not-suc-le-zero p)
-none-of-all f (suc j) e i p = at-last f j i (eq-or-lt-of-le (le-of-suc-le-suc p)) (omega arith) (none-of-all f j (omega arith) i)
-
--- where the sum of f is 1, f is 1 at one place and 0 at every other
-one-of-all : (f : ℕ → ℕ) (j : ℕ) → total j f ≡ 1 → OnlyOne j f
-one-of-all f zero e = let z : ⊥ = omega arith in absurd z
-one-of-all f (suc j) e = go (f j) refl (one-of-all f j)
+-- a rising sequence that begins at or below r and ends above it passes r at one step
+passes : (f : ℕ → ℕ) (j r : ℕ) → f 0 ≤ r → r < f j → (i : ℕ) × (i < j) × (f i ≤ r) × (r < f (suc i))
+passes f zero r p q = let z : ⊥ = omega arith in absurd z
+passes f (suc j) r p q = go (decLt r (f j)) (passes f j r p)
   where
-    before : (i : ℕ) → i < suc j → (i ≡ j → ⊥) → i < j
-    before i p q = omega arith
+    go : Dec (r < f j) → (r < f j → (i : ℕ) × (i < j) × (f i ≤ r) × (r < f (suc i))) → (i : ℕ) × (i < suc j) × (f i ≤ r) × (r < f (suc i))
+    go (yes b) ih = let s = ih b in (s .0, omega (arith, s .1), s .2, s .3)
+    go (no b) ih = (j, omega arith, omega arith, q)
 
-    go : (m : ℕ) → f j ≡ m → (total j f ≡ 1 → OnlyOne j f) → OnlyOne (suc j) f
-    go zero p one =
-        let o = one (omega arith) in
-        record {
-          which = o .which;
-          inside = omega (arith, o .inside);
-          once = o .once;
-          others = λ i q other. at-last f j i (eq-or-lt-of-le (le-of-suc-le-suc q)) p (λ r. o .others i r other);
-        }
-    go (suc m) p one =
-        record {
-          which = j;
-          inside = omega arith;
-          once = omega arith;
-          others = λ i q other. none-of-all f j (omega arith) i (before i q other);
-        }
+rises-to : (f : ℕ → ℕ) → ((i : ℕ) → f i ≤ f (suc i)) → (a b : ℕ) → a ≤ b → f a ≤ f b
+rises-to f up a zero p = let e : a ≡ 0 = omega arith in rw e (le-refl (f 0))
+rises-to f up a (suc b) p = go (eq-or-lt-of-le p) (rises-to f up a b)
+  where
+    go : (a ≡ suc b) ⊎ (a < suc b) → (a ≤ b → f a ≤ f b) → f a ≤ f (suc b)
+    go (inl e) ih = rw e (le-refl (f (suc b)))
+    go (inr q) ih = omega (arith, ih (le-of-suc-le-suc q), up b)
 
-pub visited-once : (n k jobs : ℕ) → 0 < jobs → (s : List ℕ) → isSet n k s ≡ true → OnlyOne jobs (λ i. timesIn s (visited n k jobs i))
+-- and at one step only
+passes-once : (f : ℕ → ℕ) → ((i : ℕ) → f i ≤ f (suc i)) → (i j r : ℕ) → f i ≤ r → r < f (suc i) → f j ≤ r → r < f (suc j) → i ≡ j
+passes-once f up i j r a b c d = go (decLt i j) (decLt j i)
+  where
+    go : Dec (i < j) → Dec (j < i) → i ≡ j
+    go (yes p) w = let z : ⊥ = omega (arith, rises-to f up (suc i) j p) in absurd z
+    go (no p) (yes q) = let z : ⊥ = omega (arith, rises-to f up (suc j) i q) in absurd z
+    go (no p) (no q) = omega arith
+
+pub job-of-rank : (all jobs r : ℕ) → 0 < jobs → r < all → (i : ℕ) × HasRank all jobs i r
+job-of-rank all jobs r h b =
+    let s = passes (start all jobs) jobs r (omega (arith, start-zero all jobs)) (omega (arith, start-all all jobs h)) in
+    (s .0, record { inside = s .1; from = s .2; to = s .3 })
+
+pub one-job : (all jobs i j r : ℕ) → 0 < jobs → HasRank all jobs i r → HasRank all jobs j r → i ≡ j
+one-job all jobs i j r h p q = passes-once (start all jobs) (λ m. start-rises all jobs m h) i j r (p .from) (p .to) (q .from) (q .to)
+
+pub rank-counted : (all jobs i r : ℕ) → 0 < jobs → HasRank all jobs i r → r < all
+rank-counted all jobs i r h p = omega (arith, p .to, start-within all jobs (suc i) h (p .inside))
+
+pub visited-once : (n k jobs : ℕ) → 0 < jobs → (s : List ℕ) → isSet n k s ≡ true → VisitedOnce n k jobs s
 visited-once n k jobs h s e =
-    one-of-all (λ i. timesIn s (visited n k jobs i)) jobs
-    (sym (times-joined s jobs (visited n k jobs)) ∙ ap (timesIn s) (jobs-joined n k jobs h) ∙ revolving-once n k s ∙ ap oneIf e)
+    let there = set-of-rank n k s e in
+    let found = job-of-rank (binom n k) jobs (rankOf n s) h (there .0) in
+    record {
+      job = found .0;
+      rank = rankOf n s;
+      visits = found .1;
+      stands = there .1;
+      only = λ i r p q.
+          let same : rankOf n s ≡ r = rank-unique n k r s (rank-counted (binom n k) jobs i r h p) q in
+          (one-job (binom n k) jobs i (found .0) (rankOf n s) h (subst (HasRank (binom n k) jobs i) (sym same) p) (found .1), sym same);
+    }

@@ -5,3 +5,4 @@ pub mod Revolving
 pub mod Division
 pub mod Pascal
 pub mod Unranking
+mod Examples

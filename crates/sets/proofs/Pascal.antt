@@ -3,13 +3,14 @@
 --     rows m row rest       m more rows of eight follow `row`, each by the rule
 --     pascal table          the first row is 1, 0, .. 0, and 512 more follow
 --     pascal-counts         a table that passes the test holds the counts
+--     row, binom-row        a count worked out row by row: Pascal's clauses themselves take as many steps as the count
 use Prim.Native.Nat.{ℕ, zero, suc, _+_, _*_, _≤_, _<_}
 use native.Mathlib.Nat.{add-zero, zero-add, mul-zero, mul-suc, not-suc-le-zero, le-of-suc-le-suc}
 use native.Mathlib.Omega.{arith}
 use mathlib.Core.Path.{_≡_, refl, sym, _∙_, ap, ap₂, subst}
 use mathlib.Core.Bool.{Bool, true, false, _&&_, true≢false}
 use mathlib.Core.List.{List, [], _∷_, _++_}
-use borrow.Author.Tests.{eqb-true}
+use borrow.Author.Tests.{eqb-true, eq-eqb}
 use lib.Dec.{eqb}
 use lib.ListN.{length, getD, take, drop, take-append-drop, List·getD-append, replicate, getD-replicate}
 use Rattle.sets.specs.Order.{binom, same}
@@ -27,7 +28,7 @@ abbrev rows : ℕ → List ℕ → List ℕ → Bool
 rows zero row rest = true
 rows (suc m) row rest = follows 0 row (take 8 rest) && rows m (take 8 rest) (drop 8 rest)
 
-abbrev firstRow : List ℕ
+abbrev pub firstRow : List ℕ
 firstRow = 1 ∷ replicate 7 0
 
 abbrev pub pascal : List ℕ → Bool
@@ -103,3 +104,27 @@ pascal-counts table e n k p q =
     ∙ rows-hold 512 0 (take 8 table) (drop 8 table) (and-right (same (take 8 table) firstRow) (rows 512 (take 8 table) (drop 8 table)) e)
     (ap length first) (subst (λ (l : List ℕ). Holds l (binom 0)) (sym first) first-holds) n k p q
     ∙ ap (λ (j : ℕ). binom j k) (zero-add n)
+
+abbrev pub nextRow : ℕ → List ℕ → List ℕ
+nextRow left [] = []
+nextRow left (u ∷ us) = (u + left) ∷ nextRow u us
+
+abbrev pub row : ℕ → List ℕ
+row zero = firstRow
+row (suc n) = nextRow 0 (row n)
+
+next-follows : (left : ℕ) (us : List ℕ) → follows left us (nextRow left us) ≡ true
+next-follows left [] = refl
+next-follows left (u ∷ us) = rw (eq-eqb (u + left) (u + left) refl) (next-follows u us)
+
+row-holds : (n : ℕ) → (length (row n) ≡ 8) × Holds (row n) (binom n)
+row-holds zero = (refl, first-holds)
+row-holds (suc n) =
+    let ih = row-holds n in
+    let rule = next-follows 0 (row n) in (
+      follows-length 0 (row n) (row (suc n)) rule ∙ ih .0,
+      λ k p. follows-holds 0 (binom n) (row n) (row (suc n)) rule (ih .1) k p ∙ binom-before n k,
+    )
+
+pub binom-row : (n k : ℕ) → k ≤ 7 → binom n k ≡ getD (row n) k 0
+binom-row n k p = sym (row-holds n .1 k (omega (arith, row-holds n .0)))

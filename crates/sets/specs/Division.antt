@@ -4,12 +4,13 @@
 --     total j f            the sum of f at 0, 1, .. j - 1
 --     visited n k jobs i   the sets that job i visits, in order
 --     joined j f           the lists that f gives at 0, 1, .. j - 1, one after the other
---     OnlyOne j f          f is 1 at exactly one of 0, 1, .. j - 1, and 0 at the others
-use Prim.Native.Nat.{ℕ, zero, suc, _+_, _-_, _*_, _/_, _<_}
+--     HasRank all jobs i r     rank r is one of job i's
+--     VisitedOnce n k jobs s   exactly one job visits the set s, at exactly one of its ranks
+use Prim.Native.Nat.{ℕ, zero, suc, _+_, _-_, _*_, _/_, _≤_, _<_}
 use mathlib.Core.Path.{_≡_}
 use mathlib.Core.List.{List, [], _++_}
 use lib.ListN.{take, drop}
-use Rattle.sets.specs.Order.{binom, revolving}
+use Rattle.sets.specs.Order.{binom, revolving, setAt}
 
 -- the floor of the whole product i times all over jobs, which no word has to hold
 abbrev pub start : ℕ → ℕ → ℕ → ℕ
@@ -29,8 +30,14 @@ abbrev pub joined : ℕ → (ℕ → List (List ℕ)) → List (List ℕ)
 joined zero f = []
 joined (suc j) f = joined j f ++ f j
 
-pub record OnlyOne (j : ℕ) (f : ℕ → ℕ) : Type 0 where
-  pub which : ℕ
-  pub inside : which < j
-  pub once : f which ≡ 1
-  pub others : (i : ℕ) → i < j → (i ≡ which → ⊥) → f i ≡ 0
+pub record HasRank (all jobs i r : ℕ) : Type 0 where
+  pub inside : i < jobs
+  pub from : start all jobs i ≤ r
+  pub to : r < start all jobs (suc i)
+
+pub record VisitedOnce (n k jobs : ℕ) (s : List ℕ) : Type 0 where
+  pub job : ℕ
+  pub rank : ℕ
+  pub visits : HasRank (binom n k) jobs job rank
+  pub stands : setAt n k rank ≡ s
+  pub only : (i r : ℕ) → HasRank (binom n k) jobs i r → setAt n k r ≡ s → (i ≡ job) × (r ≡ rank)

@@ -3,7 +3,7 @@
 // in the scope's order, and a refusal alters no lent number.
 ghost use mathlib.Core.Path.{_≡_};
 ghost use Prim.Native.Nat.{_*_, _/_, _≤_, _<_};
-ghost use Rattle.sets.specs.Answers.{countTold, setTold, rankTold, jobTold, setCount, setFromRank, rankFromSet, jobRanks};
+ghost use Rattle.sets.specs.Answers.{refusalNumber, countTold, setTold, rankTold, jobTold, setCount, setFromRank, rankFromSet, jobRanks};
 ghost use Rattle.sets.specs.Division.{start};
 
 mod counts;
@@ -15,7 +15,7 @@ pub const MAX_SIZE: usize = 7;
 
 pub const MAX_JOBS: u64 = 65536;
 
-// Why an entry turns its arguments down. The scope's numbers: 12, 17, 16, 18, 19, 21.
+// Why an entry turns its arguments down.
 pub enum Refusal {
     TooManyWires,
     SizeTooLarge,
@@ -23,6 +23,22 @@ pub enum Refusal {
     RankTooLarge,
     NoSuchJob,
     NotASet,
+}
+
+impl Refusal {
+    // The scope's number of the refusal.
+    pub fn number(self) -> u64
+        ensures { λ r. ⌜ r ≡ refusalNumber self ⌝ }
+    {
+        match self {
+            Refusal::TooManyWires => 12,
+            Refusal::SizeTooLarge => 17,
+            Refusal::BufferTooShort => 16,
+            Refusal::RankTooLarge => 18,
+            Refusal::NoSuchJob => 19,
+            Refusal::NotASet => 21,
+        }
+    }
 }
 
 pub enum CountAnswer {

@@ -1,0 +1,52 @@
+// 100,000 trips from a rank of seven out of 512 wires to its set and back, with the table of counts held once. It counts
+// those that come back to their rank. Timed from outside, this is the cost of the numbering.
+const TRIPS: u64 = 100000;
+
+ghost use Prim.Native.Nat.{_≤_, _<_};
+ghost use mathlib.Core.Path.{_≡_};
+ghost use Rattle.sets.specs.Order.{binom};
+ghost use Rattle.sets.specs.Counts.{Counts};
+
+const WIRES: usize = 512;
+
+const SIZE: usize = 7;
+
+fn main() {
+    let counts = sets::order::counts();
+    let all = sets::order::count(&counts, WIRES, SIZE);
+    if 0 < all {
+        io::print_decimal(1, trips(&counts, all));
+    }
+    io::write_all(1, b" of 100000 trips returned to their rank\n");
+}
+
+// How many of the trips come back to their rank.
+fn trips(counts: &[u64; 4104], all: u64) -> u64
+    requires { ⌜ Counts (now counts) ⌝ }
+    requires { ⌜ (0 < all) × (all ≡ binom 512 7) ⌝ }
+{
+    let mut returned: u64 = 0;
+    let mut seed: u64 = 0;
+    for trip in 0..TRIPS {
+        // The golden ratio's step, modulo 2^64, spreads the ranks over the whole order.
+        seed = std::num::wrapping_add_u64(seed, 11400714819323198485);
+        returned += there_and_back(counts, seed % all);
+    }
+    returned
+}
+
+// 1 where the set at the rank has that rank.
+fn there_and_back(counts: &[u64; 4104], rank: u64) -> u64
+    requires { ⌜ Counts (now counts) ⌝ }
+    requires { ⌜ rank < binom 512 7 ⌝ }
+    ensures { λ r. ⌜ r ≤ 1 ⌝ }
+{
+    let mut set = [0u16; 7];
+    sets::order::unrank(counts, WIRES, SIZE, rank, &mut set);
+    if sets::order::is_rising(WIRES, &set) {
+        if sets::order::rank(counts, WIRES, &set) == rank {
+            return 1;
+        }
+    }
+    0
+}

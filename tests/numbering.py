@@ -1,0 +1,113 @@
+#!/usr/bin/env python3
+"""What crates/numbering is to print, worked out from the scope and from nothing in crates/.
+
+usage: tests/numbering.py > crates/numbering/stdout
+"""
+from math import comb
+
+
+def revolving(n, k):
+    """The sets of k out of n wires in revolving-door order."""
+    if k == 0:
+        return [[]]
+    if n == 0:
+        return []
+    return revolving(n - 1, k) + [s + [n - 1] for s in reversed(revolving(n - 1, k - 1))]
+
+
+def unrank(n, k, r):
+    """The set at a rank of an order too long to list."""
+    if k == 0:
+        return []
+    top = max(m for m in range(n) if comb(m, k) <= r)
+    return unrank(top, k - 1, comb(top + 1, k) - 1 - r) + [top]
+
+
+def rank(n, s):
+    """The rank of a set in an order too long to list: count what stands before it."""
+    if not s:
+        return 0
+    top, k = s[-1], len(s)
+    return comb(top, k) + comb(top, k - 1) - 1 - rank(top, s[:-1])
+
+
+def line(*parts):
+    print(" ".join(str(p) for p in parts))
+
+
+def count(n, k):
+    head = "count %d %d:" % (n, k)
+    if n > 512:
+        line(head, "refused", 12)
+    elif k > 7:
+        line(head, "refused", 17)
+    else:
+        line(head, comb(n, k))
+
+
+def set_at(n, k, r, buffer):
+    head = "set %d %d %d:" % (n, k, r)
+    if n > 512:
+        line(head, *buffer, "refused", 12)
+    elif k > 7:
+        line(head, *buffer, "refused", 17)
+    elif len(buffer) < k:
+        line(head, *buffer, "refused", 16)
+    elif r >= comb(n, k):
+        line(head, *buffer, "refused", 18)
+    else:
+        buffer[:k] = revolving(n, k)[r] if n < 30 else unrank(n, k, r)
+        line(head, *buffer)
+    return buffer
+
+
+def rank_of(n, s):
+    head = " ".join(["rank", str(n)] + [str(x) for x in s]) + ":"
+    if n > 512:
+        line(head, "refused", 12)
+    elif len(s) > 7:
+        line(head, "refused", 17)
+    elif any(a >= b for a, b in zip(s, s[1:])) or any(x >= n for x in s):
+        line(head, "refused", 21)
+    else:
+        line(head, revolving(n, len(s)).index(s) if n < 30 else rank(n, s))
+
+
+def job(n, k, i, j):
+    head = "job %d %d %d %d:" % (n, k, i, j)
+    if n > 512:
+        line(head, "refused", 12)
+    elif k > 7:
+        line(head, "refused", 17)
+    elif j == 0 or j > 65536 or i >= j:
+        line(head, "refused", 19)
+    else:
+        line(head, i * comb(n, k) // j, (i + 1) * comb(n, k) // j)
+
+
+LARGEST = 2 ** 64 - 1
+for n in range(6):
+    for k in range(4):
+        count(n, k)
+        for r in range(11):
+            rank_of(n, set_at(n, k, r, [9] * 4)[:k])
+count(24, 2)
+job(24, 2, 3, 7)
+count(512, 4)
+job(512, 4, 2, 16)
+job(512, 7, 65535, 65536)
+set_at(24, 2, 1, [9] * 2)
+for n, k in (512, 7), (512, 8), (513, 7), (513, 8), (6, 7):
+    count(n, k)
+for args in (512, 8, 0, 0), (513, 8, 0, 0), (512, 7, 0, 0), (512, 7, 0, 65536), (512, 7, 0, 65537), (512, 7, 7, 7), (512, 7, 6, 7), (3, 4, 6, 7), (3, 4, LARGEST, LARGEST):
+    job(*args)
+eight = [9] * 8
+for n, k, r in (512, 7, 10 ** 12), (512, 7, LARGEST), (512, 8, 0), (513, 9, 0), (LARGEST, 9, 0):
+    set_at(n, k, r, eight)
+six = [9] * 6
+set_at(512, 7, LARGEST, six)
+set_at(512, 6, 5, six)
+set_at(0, 0, 0, [])
+set_at(0, 0, 1, [])
+for n, s in (513, range(8)), (512, range(8)), (512, range(505, 512)), (511, range(505, 512)), (512, (3, 5, 5)), (512, (5, 3)), (512, (65535,)):
+    rank_of(n, list(s))
