@@ -86,11 +86,12 @@ pub fn set_from_rank(wires: usize, size: usize, rank: u64, set: &mut [u16]) -> S
     if MAX_SIZE < size {
         return SetAnswer::Refused(Refusal::SizeTooLarge);
     }
+    let counts = order::counts();
+    let all = order::count(&counts, wires, size);
     if set.len() < size {
         return SetAnswer::Refused(Refusal::BufferTooShort);
     }
-    let counts = order::counts();
-    if order::count(&counts, wires, size) <= rank {
+    if all <= rank {
         return SetAnswer::Refused(Refusal::RankTooLarge);
     }
     order::unrank(&counts, wires, size, rank, set);

@@ -56,7 +56,8 @@ pub fn unrank(counts: &[u64; 4104], wires: usize, size: usize, rank: u64, set: &
     let mut r = rank;
     while 0 < left {
         let wire = top_wire(counts, n, left, r);
-        r = count(counts, wire + 1, left) - 1 - r;
+        let through = count(counts, wire + 1, left);
+        r = through - 1 - r;
         left -= 1;
         set[left] = wire as u16;
         n = wire;
@@ -93,7 +94,8 @@ pub fn rank(counts: &[u64; 4104], n: usize, set: &[u16]) -> u64
     let mut i = 0;
     while i < set.len() {
         let wire = set[i] as usize;
-        r = count(counts, wire + 1, i + 1) - 1 - r;
+        let through = count(counts, wire + 1, i + 1);
+        r = through - 1 - r;
         i += 1;
     }
     r
