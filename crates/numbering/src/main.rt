@@ -11,8 +11,11 @@ const STDOUT: i32 = 1;
 fn main() {
     orders();
     examples();
-    limits();
-    lent();
+    count_limits();
+    job_limits();
+    set_limits();
+    rank_limits();
+    no_sets();
 }
 
 // A space and a number.
@@ -137,16 +140,19 @@ fn examples() {
     tell_count(512, 4);
     tell_job(512, 4, 2, 16);
     tell_job(512, 7, 65535, 65536);
-    let mut buffer = [9u16; 2];
-    tell_set(24, 2, 1, &mut buffer);
+    let mut pair = [9u16; 2];
+    tell_set(24, 2, 1, &mut pair);
 }
 
-fn limits() {
+fn count_limits() {
     tell_count(512, 7);
     tell_count(512, 8);
     tell_count(513, 7);
     tell_count(513, 8);
     tell_count(6, 7);
+}
+
+fn job_limits() {
     tell_job(512, 8, 0, 0);
     tell_job(513, 8, 0, 0);
     tell_job(512, 7, 0, 0);
@@ -155,28 +161,48 @@ fn limits() {
     tell_job(512, 7, 7, 7);
     tell_job(512, 7, 6, 7);
     tell_job(3, 4, 6, 7);
-    tell_job(3, 4, 18446744073709551615, 18446744073709551615);
+    tell_job(3, 4, u64::MAX, u64::MAX);
 }
 
-fn lent() {
-    let mut eight = [9u16; 8];
-    tell_set(512, 7, 1000000000000, &mut eight);
-    tell_set(512, 7, 18446744073709551615, &mut eight);
-    tell_set(512, 8, 0, &mut eight);
-    tell_set(513, 9, 0, &mut eight);
-    tell_set(18446744073709551615, 9, 0, &mut eight);
-    let mut six = [9u16; 6];
-    tell_set(512, 7, 18446744073709551615, &mut six);
-    tell_set(512, 6, 5, &mut six);
-    let mut none = [9u16; 0];
-    tell_set(0, 0, 0, &mut none);
-    tell_set(0, 0, 1, &mut none);
-    let eight_set = [0u16, 1, 2, 3, 4, 5, 6, 7];
-    tell_rank(513, &eight_set);
-    tell_rank(512, &eight_set);
+// A buffer of eight, one of six and an empty one.
+fn set_limits() {
+    set_of_eight(512, 7, 1000000000000);
+    set_of_eight(512, 7, u64::MAX);
+    set_of_eight(512, 8, 0);
+    set_of_eight(513, 9, 0);
+    set_of_eight(usize::MAX, 9, 0);
+    set_of_six(512, 7, u64::MAX);
+    set_of_six(512, 6, 5);
+    set_of_none(0, 0, 0);
+    set_of_none(0, 0, 1);
+    set_of_none(1, 1, 0);
+}
+
+fn set_of_eight(wires: usize, k: usize, rank: u64) {
+    let mut buffer = [9u16; 8];
+    tell_set(wires, k, rank, &mut buffer);
+}
+
+fn set_of_six(wires: usize, k: usize, rank: u64) {
+    let mut buffer = [9u16; 6];
+    tell_set(wires, k, rank, &mut buffer);
+}
+
+fn set_of_none(wires: usize, k: usize, rank: u64) {
+    let mut buffer = [9u16; 0];
+    tell_set(wires, k, rank, &mut buffer);
+}
+
+fn rank_limits() {
+    let eight = [0u16, 1, 2, 3, 4, 5, 6, 7];
+    tell_rank(513, &eight);
+    tell_rank(512, &eight);
     let top = [505u16, 506, 507, 508, 509, 510, 511];
     tell_rank(512, &top);
     tell_rank(511, &top);
+}
+
+fn no_sets() {
     let twice = [3u16, 5, 5];
     tell_rank(512, &twice);
     let falling = [5u16, 3];

@@ -15,7 +15,8 @@ use mathlib.Core.Bool.{Bool, true}
 use mathlib.Core.List.{List, [], _∷_, _++_}
 use lib.ListN.{length, take, drop}
 use lib.Seq.{take-add, take-all}
-use Rattle.sets.specs.Order.{binom, revolving, setAt, rankOf, isSet}
+use Rattle.counts.specs.Counts.{binom}
+use Rattle.sets.specs.Order.{revolving, setAt, rankOf, isSet}
 use Rattle.sets.specs.Division.{start, share, total, visited, joined, HasRank, VisitedOnce}
 use Rattle.sets.proofs.Revolving.{revolving-length, set-of-rank, rank-unique}
 

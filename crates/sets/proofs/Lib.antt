@@ -3,6 +3,5 @@ pub mod Lists
 pub mod Rising
 pub mod Revolving
 pub mod Division
-pub mod Pascal
 pub mod Unranking
 mod Examples

@@ -1,7 +1,6 @@
 -- Facts on lists that know nothing of wires or of an order.
---     getD-map, getD-second, getD-reverse      an element of a mapped list, of a second part, of a reversed list
+--     getD-map, getD-reverse                   an element of a mapped list, of a reversed list
 --     bool-ext                                 two tests that pass together are equal
---     and-left, and-right                      the parts of a conjunction
 --     same-refl, same-true, same-snoc          what the test of two lists says
 --     ends-or-empty                            a list is empty or has a last element
 --     oneIf                                    1 where a test passes, else 0
@@ -18,6 +17,7 @@ use borrow.Author.Tests.{eq-eqb, ne-eqb, eqb-true}
 use lib.Dec.{eqb}
 use lib.ListN.{length, getD, length-append, length-reverse, List·getD-append}
 use lib.Seq.{getD-append-add, getD-append-seam}
+use Rattle.counts.proofs.Lists.{and-left, and-right, getD-second}
 use Rattle.sets.specs.Order.{same, timesIn, placeOf}
 
 module _ {A B : Type 0} where
@@ -27,9 +27,6 @@ module _ {A B : Type 0} where
   getD-map f (x ∷ l) (suc i) d e h = getD-map f l i d e (le-of-suc-le-suc h)
 
 module _ {A : Type 0} where
-  pub getD-second : (l m : List A) (i j : ℕ) (d : A) → length l + j ≡ i → getD (l ++ m) i d ≡ getD m j d
-  getD-second l m i j d e = ap (λ (n : ℕ). getD (l ++ m) n d) (sym e) ∙ getD-append-add l m j d
-
   -- the places of a reversed list, counted from its two ends, add up to its length less one
   pub getD-reverse : (l : List A) (i j : ℕ) (d : A) → i + suc j ≡ length l → getD (reverse l) i d ≡ getD l j d
   getD-reverse [] i j d e = let z : _≡_ {A = ℕ} 0 1 = omega arith in absurd (suc-ne-zero 0 (sym z))
@@ -45,14 +42,6 @@ pub bool-ext : (a b : Bool) → (a ≡ true → b ≡ true) → (b ≡ true → 
 bool-ext true b f g = sym (f refl)
 bool-ext false true f g = g refl
 bool-ext false false f g = refl
-
-pub and-left : (a b : Bool) → (a && b) ≡ true → a ≡ true
-and-left true b e = refl
-and-left false b e = e
-
-pub and-right : (a b : Bool) → (a && b) ≡ true → b ≡ true
-and-right true b e = e
-and-right false b e = absurd (true≢false (sym e))
 
 pub same-refl : (s : List ℕ) → same s s ≡ true
 same-refl [] = refl

@@ -1,11 +1,10 @@
 -- The revolving-door order, for every number of wires and every size.
---     binom-zero, binom-none, binom-suc        Pascal's rule, as equations
 --     revolving-length    the list has binom n k sets
 --     revolving-once      every set of k out of n wires stands in it exactly once, and nothing else does
 --     set-at-is-set, rank-of-set, set-of-rank  rank and set are inverse, both ways
 --     every-rank          what holds at every rank holds of every set, and the other way round
 --     rank-unique         the rank at which a set stands is its rank
---     binom-wider, set-at-wider                more wires continue the list
+--     set-at-wider        more wires continue the list
 --     set-at-step         the set at a rank, from its highest wire and the rank of the rest
 use Prim.Native.Nat.{ℕ, zero, suc, _+_, _-_, _≤_, _<_}
 use native.Mathlib.Nat.{add-zero, zero-add, add-suc, suc-add, not-suc-le-zero, le-of-suc-le-suc, eq-or-lt-of-le, le-refl}
@@ -18,22 +17,12 @@ use mathlib.Core.List.{List, [], _∷_, _++_, map, reverse}
 use borrow.Author.Tests.{lt-ltb, le-ltb, eq-eqb, ne-eqb}
 use lib.Dec.{ltb, eqb, eqb·zero-suc, eqb·suc-zero, leb·suc-zero}
 use lib.ListN.{length, getD, length-append, length-reverse, length-map, List·getD-append}
-use Rattle.sets.specs.Order.{binom, revolving, setAt, rising, below, isSet, rankOf, placeOf, timesIn}
-use Rattle.sets.proofs.Lists.{getD-map, getD-second, getD-reverse, ends-or-empty, oneIf, times-append, times-reverse, times-snoc, times-empty, times-at, place-in, place-at, and-left, and-right}
+use Rattle.counts.specs.Counts.{binom}
+use Rattle.counts.proofs.Lists.{and-left, and-right, getD-second}
+use Rattle.counts.proofs.Binomial.{binom-zero, binom-none, binom-suc, binom-wider}
+use Rattle.sets.specs.Order.{revolving, setAt, rising, below, isSet, rankOf, placeOf, timesIn}
+use Rattle.sets.proofs.Lists.{getD-map, getD-reverse, ends-or-empty, oneIf, times-append, times-reverse, times-snoc, times-empty, times-at, place-in, place-at}
 use Rattle.sets.proofs.Rising.{isSet-snoc, isSet-parts}
-
-pub binom-zero : (n : ℕ) → binom n 0 ≡ 1
-unfolding binom
-binom-zero zero = refl
-binom-zero (suc n) = refl
-
-pub binom-none : (k : ℕ) → binom 0 (suc k) ≡ 0
-unfolding binom
-binom-none k = refl
-
-pub binom-suc : (n k : ℕ) → binom (suc n) (suc k) ≡ binom n (suc k) + binom n k
-unfolding binom
-binom-suc n k = refl
 
 -- the sets with wire n
 abbrev pub withLast : ℕ → List (List ℕ) → List (List ℕ)
@@ -172,15 +161,6 @@ set-at-second n k q r h e =
     ∙ getD-second (revolving n (suc k)) (withLast n (revolving n k)) r i [] p
     ∙ getD-map (λ s. s ++ (n ∷ [])) (reverse (revolving n k)) i [] [] b
     ∙ ap (λ (s : List ℕ). s ++ (n ∷ [])) (getD-reverse (revolving n k) i q [] c)
-
-pub binom-wider : (m n k : ℕ) → m ≤ n → binom m k ≤ binom n k
-binom-wider m n zero h = omega (arith, binom-zero m, binom-zero n)
-binom-wider m zero (suc k) h = let e : m ≡ 0 = omega arith in rw e (le-refl (binom 0 (suc k)))
-binom-wider m (suc n) (suc k) h = go (eq-or-lt-of-le h) (binom-wider m n (suc k))
-  where
-    go : (m ≡ suc n) ⊎ (m < suc n) → (m ≤ n → binom m (suc k) ≤ binom n (suc k)) → binom m (suc k) ≤ binom (suc n) (suc k)
-    go (inl e) ih = rw e (le-refl (binom (suc n) (suc k)))
-    go (inr p) ih = omega (arith, ih (le-of-suc-le-suc p), binom-suc n k)
 
 -- the list for more wires begins with the list for fewer
 pub set-at-wider : (m n k r : ℕ) → m ≤ n → r < binom m k → setAt n k r ≡ setAt m k r

@@ -19,7 +19,8 @@ use lib.Dec.{ltb, leb, eqb, eqb·suc-suc}
 use lib.ListN.{length, getD, take, drop, length-append, drop-of-length-le}
 use lib.Seq.{drop-cons}
 use Rattle.sets.specs.Order.{rising, below, isSet}
-use Rattle.sets.proofs.Lists.{bool-ext, and-left, and-right}
+use Rattle.counts.proofs.Lists.{and-left, and-right}
+use Rattle.sets.proofs.Lists.{bool-ext}
 
 abbrev pub chosen : ℕ → ℕ → List ℕ → Bool
 chosen lo n [] = true

@@ -12,10 +12,12 @@ use mathlib.Core.Bool.{Bool, true, _&&_}
 use mathlib.Core.List.{List, [], _∷_, _++_, append-assoc}
 use lib.ListN.{length, getD, take, drop, set, length-set}
 use lib.Seq.{drop-cons, take-suc, take-length, take-all, set-split, getD-set-same, drop-set-lt}
-use Rattle.sets.specs.Order.{binom, setAt, rankOf, rising, below}
-use Rattle.sets.specs.Counts.{TopWire}
+use Rattle.counts.specs.Counts.{binom}
+use Rattle.counts.proofs.Binomial.{binom-zero, binom-none, binom-suc, binom-wider}
+use Rattle.sets.specs.Order.{setAt, rankOf, rising, below}
+use Rattle.sets.specs.Order.{TopWire}
 use Rattle.sets.proofs.Rising.{Chosen, chosen-true, chosen-snoc, chosen-take, rising-chosen}
-use Rattle.sets.proofs.Revolving.{binom-zero, binom-none, binom-suc, set-at-step, binom-wider, rank-unique, set-at-none}
+use Rattle.sets.proofs.Revolving.{set-at-step, rank-unique, set-at-none}
 
 -- no wires have no sets of one wire or more, so there is a wire below n
 pub top-start : (n k r : ℕ) → 0 < k → r < binom n k → (0 < n) × (binom 0 k ≤ r)

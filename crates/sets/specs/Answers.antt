@@ -11,7 +11,8 @@ use mathlib.Core.Bool.{Bool, cond, _&&_, _||_, not}
 use mathlib.Core.List.{List, [], _∷_, _++_}
 use lib.Dec.{ltb, leb, eqb}
 use lib.ListN.{length, drop}
-use Rattle.sets.specs.Order.{binom, setAt, rankOf, rising, below}
+use Rattle.counts.specs.Counts.{binom}
+use Rattle.sets.specs.Order.{setAt, rankOf, rising, below}
 use Rattle.sets.specs.Division.{start}
 use Rattle.sets.specs.declared.Refusal.{Refusal}
 use Rattle.sets.specs.declared.Refusal.the-variants.{TooManyWires, SizeTooLarge, BufferTooShort, RankTooLarge, NoSuchJob, NotASet}

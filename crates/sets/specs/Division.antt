@@ -10,7 +10,8 @@ use Prim.Native.Nat.{ℕ, zero, suc, _+_, _-_, _*_, _/_, _≤_, _<_}
 use mathlib.Core.Path.{_≡_}
 use mathlib.Core.List.{List, [], _++_}
 use lib.ListN.{take, drop}
-use Rattle.sets.specs.Order.{binom, revolving, setAt}
+use Rattle.counts.specs.Counts.{binom}
+use Rattle.sets.specs.Order.{revolving, setAt}
 
 -- the floor of the whole product i times all over jobs, which no word has to hold
 abbrev pub start : ℕ → ℕ → ℕ → ℕ

@@ -1,9 +1,7 @@
 -- The definitions that the promises of `sets` cite.
 --     Order     counts, the revolving-door order, set from rank, rank from set
 --     Division  the ranks and the sets of a job
---     Counts    what a table of counts has to hold
 --     Answers   each answer in the numbers of the scope, and what each entry answers
 pub mod Order
 pub mod Division
-pub mod Counts
 pub mod Answers

@@ -1,6 +1,5 @@
 -- The published order of the sets of wires (scope, "Numbering and dividing"). A set is written as the list of its wires, rising.
---     binom n k       how many sets of k out of n wires there are: Pascal's rule
---     revolving n k   these sets in revolving-door order (a Gray code of the combinations)
+--     revolving n k   the sets of k out of n wires in revolving-door order (a Gray code of the combinations)
 --     setAt n k r     the set at rank r
 --     rising s        each wire is below the next
 --     below n s       each wire is one of a table of n
@@ -9,17 +8,13 @@
 --     placeOf s l     the first place at which s stands in l
 --     rankOf n s      the rank of s among the sets of its size out of n wires
 --     timesIn s l     at how many places of l the list s stands
-use Prim.Native.Nat.{ℕ, zero, suc, _+_}
+--     TopWire n k r wire     the wire is the highest of the set at rank r
+use Prim.Native.Nat.{ℕ, zero, suc, _+_, _≤_, _<_}
 use mathlib.Core.Bool.{Bool, true, false, cond, _&&_}
 use mathlib.Core.List.{List, [], _∷_, _++_, map, reverse}
 use lib.Dec.{ltb, eqb}
 use lib.ListN.{length, getD}
-
--- without wire n, then with it
-unfoldable pub binom : ℕ → ℕ → ℕ
-binom n zero = 1
-binom zero (suc k) = 0
-binom (suc n) (suc k) = binom n (suc k) + binom n k
+use Rattle.counts.specs.Counts.{binom}
 
 -- first those without wire n in their order, then those with it, in the reverse order of their other k wires
 unfoldable pub revolving : ℕ → ℕ → List (List ℕ)
@@ -59,3 +54,9 @@ rankOf n s = placeOf s (revolving n (length s))
 abbrev pub timesIn : List ℕ → List (List ℕ) → ℕ
 timesIn s [] = 0
 timesIn s (t ∷ l) = cond (same s t) 1 0 + timesIn s l
+
+-- the highest wire of the set at rank r: the sets of k out of as many wires stand before r, those out of one more do not
+pub record TopWire (n k r wire : ℕ) : Type 0 where
+  pub inside : wire < n
+  pub before : binom wire k ≤ r
+  pub after : r < binom (wire + 1) k

@@ -6,7 +6,6 @@ ghost use Prim.Native.Nat.{_*_, _/_, _≤_, _<_};
 ghost use Rattle.sets.specs.Answers.{refusalNumber, countTold, setTold, rankTold, jobTold, setCount, setFromRank, rankFromSet, jobRanks};
 ghost use Rattle.sets.specs.Division.{start};
 
-mod counts;
 pub mod order;
 
 pub const MAX_WIRES: usize = 512;
@@ -72,8 +71,8 @@ pub fn set_count(wires: usize, size: usize) -> CountAnswer
     if MAX_SIZE < size {
         return CountAnswer::Refused(Refusal::SizeTooLarge);
     }
-    let counts = order::counts();
-    CountAnswer::Sets(order::count(&counts, wires, size))
+    let table = counts::table();
+    CountAnswer::Sets(counts::count(&table, wires, size))
 }
 
 // Writes the set at a rank, rising, at the start of `set`.
@@ -86,15 +85,15 @@ pub fn set_from_rank(wires: usize, size: usize, rank: u64, set: &mut [u16]) -> S
     if MAX_SIZE < size {
         return SetAnswer::Refused(Refusal::SizeTooLarge);
     }
-    let counts = order::counts();
-    let all = order::count(&counts, wires, size);
+    let table = counts::table();
+    let all = counts::count(&table, wires, size);
     if set.len() < size {
         return SetAnswer::Refused(Refusal::BufferTooShort);
     }
     if all <= rank {
         return SetAnswer::Refused(Refusal::RankTooLarge);
     }
-    order::unrank(&counts, wires, size, rank, set);
+    order::unrank(&table, wires, size, rank, set);
     SetAnswer::Written
 }
 
@@ -111,8 +110,8 @@ pub fn rank_from_set(wires: usize, set: &[u16]) -> RankAnswer
     if !order::is_rising(wires, set) {
         return RankAnswer::Refused(Refusal::NotASet);
     }
-    let counts = order::counts();
-    RankAnswer::Rank(order::rank(&counts, wires, set))
+    let table = counts::table();
+    RankAnswer::Rank(order::rank(&table, wires, set))
 }
 
 // The ranks that job number `job` of `jobs` has to visit.
@@ -134,8 +133,8 @@ pub fn job(wires: usize, size: usize, job: u64, jobs: u64) -> JobAnswer
     if jobs <= job {
         return JobAnswer::Refused(Refusal::NoSuchJob);
     }
-    let counts = order::counts();
-    let all = order::count(&counts, wires, size);
+    let table = counts::table();
+    let all = counts::count(&table, wires, size);
     JobAnswer::Ranks {
         from: first_rank(all, jobs, job),
         to: first_rank(all, jobs, job + 1),

@@ -1,33 +1,17 @@
-// The order behind the entries: the counts, the set at a rank, the rank of a set. These functions ask what the
-// entries have tested, and take the table of counts from their caller, who holds it once for many calls.
+// The order behind the entries: the set at a rank, the rank of a set. These functions ask what the entries have tested,
+// and take the table of counts from their caller, who holds it once for many calls.
 ghost use mathlib.Core.Path.{_≡_};
 ghost use mathlib.Core.Bool.{true, _&&_};
 ghost use mathlib.Core.List.{_++_};
 ghost use Prim.Native.Nat.{_+_, _≤_, _<_};
 ghost use lib.ListN.{length, drop};
-ghost use Rattle.sets.specs.Order.{binom, setAt, rankOf, rising, below};
-ghost use Rattle.sets.specs.Counts.{Counts, TopWire};
-use crate::counts::COUNTS;
-
-// The table of counts. It is built anew at each call: hold it.
-pub fn counts() -> [u64; 4104]
-    ensures { λ r. ⌜ Counts r ⌝ }
-{
-    COUNTS
-}
-
-// The number of sets of k out of n wires.
-pub fn count(counts: &[u64; 4104], n: usize, k: usize) -> u64
-    requires { ⌜ Counts (now counts) ⌝ }
-    requires { ⌜ (n ≤ 512) × (k ≤ 7) ⌝ }
-    ensures { λ r. ⌜ r ≡ binom n k ⌝ }
-{
-    counts[8 * n + k]
-}
+ghost use Rattle.counts.specs.Counts.{binom, Counts};
+ghost use Rattle.sets.specs.Order.{setAt, rankOf, rising, below, TopWire};
+use counts::count;
 
 // The highest wire of the set at rank r: sets of k out of `wire` wires end at or before r, those out of one more after it.
-fn top_wire(counts: &[u64; 4104], n: usize, k: usize, r: u64) -> usize
-    requires { ⌜ Counts (now counts) ⌝ }
+fn top_wire(table: &[u64; 4104], n: usize, k: usize, r: u64) -> usize
+    requires { ⌜ Counts (now table) ⌝ }
     requires { ⌜ (n ≤ 512) × (k ≤ 7) × (0 < k) × (r < binom n k) ⌝ }
     ensures { λ wire. ⌜ TopWire n k r wire ⌝ }
 {
@@ -35,7 +19,7 @@ fn top_wire(counts: &[u64; 4104], n: usize, k: usize, r: u64) -> usize
     let mut high = n;
     while 1 < high - low {
         let middle = low + (high - low) / 2;
-        if count(counts, middle, k) <= r {
+        if count(table, middle, k) <= r {
             low = middle;
         } else {
             high = middle;
@@ -46,8 +30,8 @@ fn top_wire(counts: &[u64; 4104], n: usize, k: usize, r: u64) -> usize
 
 // Writes the set at a rank, rising, at the start of `set`, and nothing past it. The highest wire comes first: below it
 // stand the sets of one wire less, in reverse.
-pub fn unrank(counts: &[u64; 4104], wires: usize, size: usize, rank: u64, set: &mut [u16])
-    requires { ⌜ Counts (now counts) ⌝ }
+pub fn unrank(table: &[u64; 4104], wires: usize, size: usize, rank: u64, set: &mut [u16])
+    requires { ⌜ Counts (now table) ⌝ }
     requires { ⌜ (wires ≤ 512) × (size ≤ 7) × (size ≤ length (now set)) × (rank < binom wires size) ⌝ }
     ensures { λ _. ⌜ now (set .exit) ≡ setAt wires size rank ++ drop size (now (set .entry)) ⌝ }
 {
@@ -55,9 +39,9 @@ pub fn unrank(counts: &[u64; 4104], wires: usize, size: usize, rank: u64, set: &
     let mut left = size;
     let mut r = rank;
     while 0 < left {
-        let wire = top_wire(counts, n, left, r);
-        let through = count(counts, wire + 1, left);
-        r = through - 1 - r;
+        let wire = top_wire(table, n, left, r);
+        let sets = count(table, wire + 1, left);
+        r = sets - 1 - r;
         left -= 1;
         set[left] = wire as u16;
         n = wire;
@@ -85,8 +69,8 @@ pub fn is_rising(n: usize, set: &[u16]) -> bool
 }
 
 // The rank of a set of n wires, worked out from its lowest wire up.
-pub fn rank(counts: &[u64; 4104], n: usize, set: &[u16]) -> u64
-    requires { ⌜ Counts (now counts) ⌝ }
+pub fn rank(table: &[u64; 4104], n: usize, set: &[u16]) -> u64
+    requires { ⌜ Counts (now table) ⌝ }
     requires { ⌜ (n ≤ 512) × (length (now set) ≤ 7) × ((rising (now set) && below n (now set)) ≡ true) ⌝ }
     ensures { λ r. ⌜ r ≡ rankOf n (now (set .entry)) ⌝ }
 {
@@ -94,7 +78,7 @@ pub fn rank(counts: &[u64; 4104], n: usize, set: &[u16]) -> u64
     let mut i = 0;
     while i < set.len() {
         let wire = set[i] as usize;
-        let through = count(counts, wire + 1, i + 1);
+        let through = count(table, wire + 1, i + 1);
         r = through - 1 - r;
         i += 1;
     }

@@ -4,25 +4,24 @@ const TRIPS: u64 = 100000;
 
 ghost use Prim.Native.Nat.{_≤_, _<_};
 ghost use mathlib.Core.Path.{_≡_};
-ghost use Rattle.sets.specs.Order.{binom};
-ghost use Rattle.sets.specs.Counts.{Counts};
+ghost use Rattle.counts.specs.Counts.{binom, Counts};
 
 const WIRES: usize = 512;
 
 const SIZE: usize = 7;
 
 fn main() {
-    let counts = sets::order::counts();
-    let all = sets::order::count(&counts, WIRES, SIZE);
+    let table = counts::table();
+    let all = counts::count(&table, WIRES, SIZE);
     if 0 < all {
-        io::print_decimal(1, trips(&counts, all));
+        io::print_decimal(1, trips(&table, all));
     }
     io::write_all(1, b" of 100000 trips returned to their rank\n");
 }
 
 // How many of the trips come back to their rank.
-fn trips(counts: &[u64; 4104], all: u64) -> u64
-    requires { ⌜ Counts (now counts) ⌝ }
+fn trips(table: &[u64; 4104], all: u64) -> u64
+    requires { ⌜ Counts (now table) ⌝ }
     requires { ⌜ (0 < all) × (all ≡ binom 512 7) ⌝ }
 {
     let mut returned: u64 = 0;
@@ -30,21 +29,21 @@ fn trips(counts: &[u64; 4104], all: u64) -> u64
     for trip in 0..TRIPS {
         // The golden ratio's step, modulo 2^64, spreads the ranks over the whole order.
         seed = std::num::wrapping_add_u64(seed, 11400714819323198485);
-        returned += there_and_back(counts, seed % all);
+        returned += there_and_back(table, seed % all);
     }
     returned
 }
 
 // 1 where the set at the rank has that rank.
-fn there_and_back(counts: &[u64; 4104], rank: u64) -> u64
-    requires { ⌜ Counts (now counts) ⌝ }
+fn there_and_back(table: &[u64; 4104], rank: u64) -> u64
+    requires { ⌜ Counts (now table) ⌝ }
     requires { ⌜ rank < binom 512 7 ⌝ }
     ensures { λ r. ⌜ r ≤ 1 ⌝ }
 {
     let mut set = [0u16; 7];
-    sets::order::unrank(counts, WIRES, SIZE, rank, &mut set);
+    sets::order::unrank(table, WIRES, SIZE, rank, &mut set);
     if sets::order::is_rising(WIRES, &set) {
-        if sets::order::rank(counts, WIRES, &set) == rank {
+        if sets::order::rank(table, WIRES, &set) == rank {
             return 1;
         }
     }

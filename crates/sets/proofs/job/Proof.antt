@@ -21,8 +21,8 @@ returns-4 c = simp (le-ltb _ _ (c .before .before .before .if1 .left), le-ltb _ 
 returns-5 : tie.Need-returns-5
 returns-5 c = simp (le-ltb _ _ (c .before .before .before .before .if1 .left), le-ltb _ _ (c .before .before .before .if2 .left), ne-eqb _ _ (c .before .before .if3 .left), le-ltb _ _ (c .before .if4 .left), le-leb _ _ (c .if5 .taken))
 
-counts-requires : tie.Need-counts-requires
-counts-requires c κs = search needs
+table-requires : tie.Need-table-requires
+table-requires c κs = search needs
 
 count-requires : tie.Need-count-requires
 count-requires c κs = search needs
@@ -51,7 +51,7 @@ job-spec =
     returns-3
     returns-4
     returns-5
-    counts-requires
+    table-requires
     count-requires
     first-rank-requires
     add-first-rank

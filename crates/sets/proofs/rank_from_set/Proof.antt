@@ -18,13 +18,13 @@ is-rising-requires c κs = search needs
 returns-3 : tie.Need-returns-3
 returns-3 c = simp (le-ltb _ _ (c .before .before .before .if1 .left), le-ltb _ _ (c .before .before .if2 .left), sym (c .before .is-rising .ensures) ∙ not-true _ (c .if3 .taken))
 
-counts-requires : tie.Need-counts-requires
-counts-requires c κs = search needs
+table-requires : tie.Need-table-requires
+table-requires c κs = search needs
 
 rank-requires : tie.Need-rank-requires
 rank-requires c κs =
     let rising = sym (c .before .before .before .is-rising .ensures) ∙ not-false _ (c .before .before .if3 .left) in
-    (c .before .counts .ensures, (search needs, search needs, rising))
+    (c .before .table .ensures, (search needs, search needs, rising))
 
 returns-4 : tie.Need-returns-4
 returns-4 c =
@@ -40,6 +40,6 @@ rank-from-set-spec =
     returns-2
     is-rising-requires
     returns-3
-    counts-requires
+    table-requires
     rank-requires
     returns-4)

@@ -11,8 +11,8 @@ returns c = simp (lt-ltb _ _ (c .if1 .taken))
 returns-2 : tie.Need-returns-2
 returns-2 c = simp (le-ltb _ _ (c .before .if1 .left), lt-ltb _ _ (c .if2 .taken))
 
-counts-requires : tie.Need-counts-requires
-counts-requires c κs = search needs
+table-requires : tie.Need-table-requires
+table-requires c κs = search needs
 
 count-requires : tie.Need-count-requires
 count-requires c κs = search needs
@@ -21,4 +21,4 @@ returns-3 : tie.Need-returns-3
 returns-3 c = simp (le-ltb _ _ (c .before .before .before .before .if1 .left), le-ltb _ _ (c .before .before .before .if2 .left), c .count .ensures)
 
 pub set-count-spec : {M : Type 1} → statement M
-set-count-spec = tie.close (tie.spec returns returns-2 counts-requires count-requires returns-3)
+set-count-spec = tie.close (tie.spec returns returns-2 table-requires count-requires returns-3)

@@ -1,5 +1,9 @@
 -- `sets::set_from_rank` meets its contract: each refusal where its test is the first to fail, with the buffer as it was, else the set.
 -- Assumes nothing.
+use native.Mathlib.Omega.{arith}
+use lib.ListN.{length}
+use denote.Ref.{now}
+use Rattle.counts.specs.Counts.{binom}
 use borrow.Author.Tests.{lt-ltb, le-ltb, le-leb, lt-leb}
 use borrow.Author.Needs.{needs}
 use Rattle.sets.proofs.set_from_rank.Statement.{statement}
@@ -11,22 +15,24 @@ returns c = simp (lt-ltb _ _ (c .if1 .taken))
 returns-2 : tie.Need-returns-2
 returns-2 c = simp (le-ltb _ _ (c .before .if1 .left), lt-ltb _ _ (c .if2 .taken))
 
-counts-requires : tie.Need-counts-requires
-counts-requires c κs = search needs
+table-requires : tie.Need-table-requires
+table-requires c κs = search needs
 
 count-requires : tie.Need-count-requires
 count-requires c κs = search needs
 
 returns-3 : tie.Need-returns-3
-returns-3 c = 
-    let p = c .before .before .before .before in
-    simp (le-ltb _ _ (p .before .if1 .left), le-ltb _ _ (p .if2 .left), lt-ltb _ _ (c .if3 .taken))
+returns-3 c =
+    let a = c .before .before .before .before .before .before .before .args in
+    simp
+    (le-ltb 512 (a .wires) (omega arith), le-ltb 7 (a .size) (omega arith), lt-ltb (length (now (a .set))) (a .size) (omega arith))
 
 returns-4 : tie.Need-returns-4
-returns-4 c = 
-    let p = c .before .before .before .before .before in
+returns-4 c =
+    let a = c .before .before .before .before .before .before .before .before .args in
+    let count = c .before .before .count .ensures in
     simp
-    (le-ltb _ _ (p .before .if1 .left), le-ltb _ _ (p .if2 .left), le-ltb _ _ (c .before .if3 .left), le-leb _ _ (rw (c .before .before .count .ensures) at (c .if4 .taken)))
+    (le-ltb 512 (a .wires) (omega arith), le-ltb 7 (a .size) (omega arith), le-ltb (length (now (a .set))) (a .size) (omega arith), le-leb (binom (a .wires) (a .size)) (a .rank) (omega (arith, count)))
 
 unrank-requires : tie.Need-unrank-requires
 unrank-requires c κs = search needs
@@ -35,11 +41,12 @@ same-length : tie.Need-same-length
 same-length c = search needs
 
 returns-5 : tie.Need-returns-5
-returns-5 c = 
+returns-5 c =
     let q = c .before .before .before .before .before in
-    let p = q .before .before .before .before .before in
+    let a = q .before .before .before .before .before .before .before .before .args in
+    let count = q .before .before .count .ensures in
     simp
-    (le-ltb _ _ (p .before .if1 .left), le-ltb _ _ (p .if2 .left), le-ltb _ _ (q .before .if3 .left), lt-leb _ _ (rw (q .before .before .count .ensures) at (q .if4 .left)), c .before .before .unrank .ensures)
+    (le-ltb 512 (a .wires) (omega arith), le-ltb 7 (a .size) (omega (arith, q)), le-ltb (length (now (a .set))) (a .size) (omega (arith, q)), lt-leb (binom (a .wires) (a .size)) (a .rank) (omega (arith, q .if4 .left, count)), c .before .before .unrank .ensures)
 
 pub set-from-rank-spec : {M : Type 1} → statement M
 set-from-rank-spec =
@@ -47,7 +54,7 @@ set-from-rank-spec =
     (tie.spec
     returns
     returns-2
-    counts-requires
+    table-requires
     count-requires
     returns-3
     returns-4

@@ -10,10 +10,10 @@ use Rattle.sets.proofs.order.rank.Statement.{statement}
 use Rattle.sets.proofs.order.rank.Tie as tie
 
 abbrev Inv-loop : tie.InvT-loop
-Inv-loop counts n set r₀ i₀ r i = (i ≤ length set) × Ranked set i r
+Inv-loop table n set r₀ i₀ r i = (i ≤ length set) × Ranked set i r
 
 abbrev μ-loop : tie.MeasureT-loop
-μ-loop counts n set r₀ i₀ r i = length set - i
+μ-loop table n set r₀ i₀ r i = length set - i
 
 loop-holds : tie.Need-loop-holds Inv-loop μ-loop
 loop-holds c = (search needs, ranked-none (now (c .before .args .set)))

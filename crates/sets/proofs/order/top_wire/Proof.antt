@@ -3,16 +3,16 @@
 use Prim.Native.Nat.{_≤_, _<_, _-_}
 use native.Mathlib.Omega.{arith}
 use borrow.Author.Needs.{needs}
-use Rattle.sets.specs.Order.{binom}
+use Rattle.counts.specs.Counts.{binom}
 use Rattle.sets.proofs.Unranking.{top-start, top-found}
 use Rattle.sets.proofs.order.top_wire.Statement.{statement}
 use Rattle.sets.proofs.order.top_wire.Tie as tie
 
 abbrev Inv-loop : tie.InvT-loop
-Inv-loop counts n k r low₀ high₀ low high = (low < high) × (high ≤ n) × (binom low k ≤ r) × (r < binom high k)
+Inv-loop table n k r low₀ high₀ low high = (low < high) × (high ≤ n) × (binom low k ≤ r) × (r < binom high k)
 
 abbrev μ-loop : tie.MeasureT-loop
-μ-loop counts n k r low₀ high₀ low high = high - low
+μ-loop table n k r low₀ high₀ low high = high - low
 
 loop-holds : tie.Need-loop-holds Inv-loop μ-loop
 loop-holds c =

@@ -6,16 +6,17 @@ use mathlib.Core.Path.{_≡_, sym, subst, _∙_, ap, refl}
 use mathlib.Core.List.{_++_, []}
 use lib.ListN.{length, drop, length-set}
 use borrow.Author.Needs.{needs}
-use Rattle.sets.specs.Order.{binom, setAt}
+use Rattle.counts.specs.Counts.{binom}
+use Rattle.sets.specs.Order.{setAt}
 use Rattle.sets.proofs.Unranking.{unrank-next, unrank-step, unrank-end}
 use Rattle.sets.proofs.order.unrank.Statement.{statement}
 use Rattle.sets.proofs.order.unrank.Tie as tie
 
 abbrev Inv-loop : tie.InvT-loop
-Inv-loop counts wires size rank set₀ n₀ left₀ r₀ set n left r = (n ≤ 512) × (left ≤ size) × (length set ≡ length set₀) × (r < binom n left) × (setAt wires size rank ++ drop size set₀ ≡ setAt n left r ++ drop left set)
+Inv-loop table wires size rank set₀ n₀ left₀ r₀ set n left r = (n ≤ 512) × (left ≤ size) × (length set ≡ length set₀) × (r < binom n left) × (setAt wires size rank ++ drop size set₀ ≡ setAt n left r ++ drop left set)
 
 abbrev μ-loop : tie.MeasureT-loop
-μ-loop counts wires size rank set₀ n₀ left₀ r₀ set n left r = left
+μ-loop table wires size rank set₀ n₀ left₀ r₀ set n left r = left
 
 loop-holds : tie.Need-loop-holds Inv-loop μ-loop
 loop-holds c = (search needs, search needs, search needs, search needs, refl)

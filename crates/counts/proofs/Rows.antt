@@ -1,7 +1,8 @@
 -- Pascal's rule over a whole table of counts, by one test that antt computes, row by row.
 --     follows left us vs    in the row vs each entry is the sum of the one above it, in us, and of that one's left neighbour
 --     rows m row rest       m more rows of eight follow `row`, each by the rule
---     pascal table          the first row is 1, 0, .. 0, and 512 more follow
+--     first row             one set of no wires, and none of one to seven, out of no wires
+--     pascal table          the first row is right, and 512 more follow by the rule
 --     pascal-counts         a table that passes the test holds the counts
 --     row, binom-row        a count worked out row by row: Pascal's clauses themselves take as many steps as the count
 use Prim.Native.Nat.{ℕ, zero, suc, _+_, _*_, _≤_, _<_}
@@ -12,11 +13,10 @@ use mathlib.Core.Bool.{Bool, true, false, _&&_, true≢false}
 use mathlib.Core.List.{List, [], _∷_, _++_}
 use borrow.Author.Tests.{eqb-true, eq-eqb}
 use lib.Dec.{eqb}
-use lib.ListN.{length, getD, take, drop, take-append-drop, List·getD-append, replicate, getD-replicate}
-use Rattle.sets.specs.Order.{binom, same}
-use Rattle.sets.specs.Counts.{Counts}
-use Rattle.sets.proofs.Lists.{and-left, and-right, same-true, getD-second}
-use Rattle.sets.proofs.Revolving.{binom-zero, binom-none, binom-suc}
+use lib.ListN.{length, getD, take, drop, take-append-drop, List·getD-append, replicate}
+use Rattle.counts.specs.Counts.{binom, Counts}
+use Rattle.counts.proofs.Lists.{and-left, and-right, getD-second}
+use Rattle.counts.proofs.Binomial.{binom-zero, binom-none, binom-suc}
 
 abbrev follows : ℕ → List ℕ → List ℕ → Bool
 follows left [] [] = true
@@ -28,11 +28,17 @@ abbrev rows : ℕ → List ℕ → List ℕ → Bool
 rows zero row rest = true
 rows (suc m) row rest = follows 0 row (take 8 rest) && rows m (take 8 rest) (drop 8 rest)
 
-abbrev pub firstRow : List ℕ
-firstRow = 1 ∷ replicate 7 0
+-- a first row of one set of no wires, and none of one or more
+abbrev zeros : List ℕ → Bool
+zeros [] = true
+zeros (x ∷ xs) = eqb x 0 && zeros xs
+
+abbrev first : List ℕ → Bool
+first [] = false
+first (x ∷ xs) = eqb x 1 && (eqb (length xs) 7 && zeros xs)
 
 abbrev pub pascal : List ℕ → Bool
-pascal table = same (take 8 table) firstRow && rows 512 (take 8 table) (drop 8 table)
+pascal table = first (take 8 table) && rows 512 (take 8 table) (drop 8 table)
 
 follows-length : (left : ℕ) (us vs : List ℕ) → follows left us vs ≡ true → length vs ≡ length us
 follows-length left [] [] e = refl
@@ -92,17 +98,31 @@ rows-hold (suc m) n row rest e long h (suc i) k p q =
     i k (le-of-suc-le-suc p) q
     ∙ ap (λ (j : ℕ). binom j k) shift
 
-first-holds : Holds firstRow (binom 0)
-first-holds zero p = sym (binom-zero 0)
-first-holds (suc k) p = getD-replicate 7 k 0 0 (le-of-suc-le-suc p) ∙ sym (binom-none k)
+zeros-hold : (xs : List ℕ) → zeros xs ≡ true → Holds xs (λ k. 0)
+zeros-hold [] e k p = absurd (not-suc-le-zero p)
+zeros-hold (x ∷ xs) e zero p = eqb-true x 0 (and-left (eqb x 0) (zeros xs) e)
+zeros-hold (x ∷ xs) e (suc k) p = zeros-hold xs (and-right (eqb x 0) (zeros xs) e) k (le-of-suc-le-suc p)
+
+first-holds : (row : List ℕ) → first row ≡ true → (length row ≡ 8) × Holds row (binom 0)
+first-holds [] e = absurd (true≢false (sym e))
+first-holds (x ∷ xs) e =
+    let rest : (eqb (length xs) 7 && zeros xs) ≡ true = and-right (eqb x 1) (eqb (length xs) 7 && zeros xs) e in
+    let one : x ≡ 1 = eqb-true x 1 (and-left (eqb x 1) (eqb (length xs) 7 && zeros xs) e) in
+    let seven : length xs ≡ 7 = eqb-true (length xs) 7 (and-left (eqb (length xs) 7) (zeros xs) rest) in
+    (ap suc seven, holds one (zeros-hold xs (and-right (eqb (length xs) 7) (zeros xs) rest)))
+  where
+    holds : x ≡ 1 → Holds xs (λ k. 0) → Holds (x ∷ xs) (binom 0)
+    holds one none zero p = one ∙ sym (binom-zero 0)
+    holds one none (suc k) p = none k (le-of-suc-le-suc p) ∙ sym (binom-none k)
 
 pub pascal-counts : (table : List ℕ) → pascal table ≡ true → Counts table
 unfolding Counts
 pascal-counts table e n k p q =
-    let first : take 8 table ≡ firstRow = same-true (take 8 table) firstRow (and-left (same (take 8 table) firstRow) (rows 512 (take 8 table) (drop 8 table)) e) in
+    let row = take 8 table in
+    let more = drop 8 table in
+    let start = first-holds row (and-left (first row) (rows 512 row more) e) in
     ap (λ (l : List ℕ). getD l (8 * n + k) 0) (sym (take-append-drop 8 table))
-    ∙ rows-hold 512 0 (take 8 table) (drop 8 table) (and-right (same (take 8 table) firstRow) (rows 512 (take 8 table) (drop 8 table)) e)
-    (ap length first) (subst (λ (l : List ℕ). Holds l (binom 0)) (sym first) first-holds) n k p q
+    ∙ rows-hold 512 0 row more (and-right (first row) (rows 512 row more) e) (start .0) (start .1) n k p q
     ∙ ap (λ (j : ℕ). binom j k) (zero-add n)
 
 abbrev pub nextRow : ℕ → List ℕ → List ℕ
@@ -110,7 +130,7 @@ nextRow left [] = []
 nextRow left (u ∷ us) = (u + left) ∷ nextRow u us
 
 abbrev pub row : ℕ → List ℕ
-row zero = firstRow
+row zero = 1 ∷ replicate 7 0
 row (suc n) = nextRow 0 (row n)
 
 next-follows : (left : ℕ) (us : List ℕ) → follows left us (nextRow left us) ≡ true
@@ -118,7 +138,7 @@ next-follows left [] = refl
 next-follows left (u ∷ us) = rw (eq-eqb (u + left) (u + left) refl) (next-follows u us)
 
 row-holds : (n : ℕ) → (length (row n) ≡ 8) × Holds (row n) (binom n)
-row-holds zero = (refl, first-holds)
+row-holds zero = first-holds (row 0) refl
 row-holds (suc n) =
     let ih = row-holds n in
     let rule = next-follows 0 (row n) in (

@@ -1,5 +1,5 @@
 // The number of sets of k out of n wires stands at 8 n + k, for 0 to 512 wires and sizes 0 to 7.
-// `order::counts` promises that these are the numbers of Pascal's rule, by one test over all of them.
+// `table` promises that these are the numbers of Pascal's rule, by one test over all of them.
 pub const COUNTS: [u64; 4104] = [
     1,
     0,

@@ -1,9 +1,9 @@
--- `sets::order::count` meets its contract: it reads the entry that the table's rule speaks of.
+-- `counts::count` meets its contract: it reads the entry that the table's rule speaks of.
 -- Assumes nothing.
-use Rattle.sets.specs.Counts.{Counts}
+use Rattle.counts.specs.Counts.{Counts}
 use borrow.Author.Needs.{needs}
-use Rattle.sets.proofs.order.count.Statement.{statement}
-use Rattle.sets.proofs.order.count.Tie as tie
+use Rattle.counts.proofs.count.Statement.{statement}
+use Rattle.counts.proofs.count.Tie as tie
 
 mul-result : tie.Need-mul-result
 mul-result c = search needs

@@ -1,0 +1,2 @@
+-- The definitions that the promises of `counts` cite.
+pub mod Counts

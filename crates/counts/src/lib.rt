@@ -1,0 +1,22 @@
+// How many sets of a size there are: a table fixed in the source (scope, "Numbering and dividing").
+ghost use mathlib.Core.Path.{_≡_};
+ghost use Prim.Native.Nat.{_≤_};
+ghost use Rattle.counts.specs.Counts.{binom, Counts};
+
+mod pascal;
+
+// The table of counts. It is built anew at each call: hold it.
+pub fn table() -> [u64; 4104]
+    ensures { λ r. ⌜ Counts r ⌝ }
+{
+    pascal::COUNTS
+}
+
+// The number of sets of k out of n wires.
+pub fn count(table: &[u64; 4104], n: usize, k: usize) -> u64
+    requires { ⌜ Counts (now table) ⌝ }
+    requires { ⌜ (n ≤ 512) × (k ≤ 7) ⌝ }
+    ensures { λ r. ⌜ r ≡ binom n k ⌝ }
+{
+    table[8 * n + k]
+}
