@@ -15,7 +15,6 @@ use lib.Seq.{drop-cons, take-suc, take-length, take-all, set-split, getD-set-sam
 use Rattle.counts.specs.Counts.{binom}
 use Rattle.counts.proofs.Binomial.{binom-zero, binom-none, binom-suc, binom-wider}
 use Rattle.sets.specs.Order.{setAt, rankOf, rising, below}
-use Rattle.sets.specs.Order.{TopWire}
 use Rattle.sets.proofs.Rising.{Chosen, chosen-true, chosen-snoc, chosen-take, rising-chosen}
 use Rattle.sets.proofs.Revolving.{set-at-step, rank-unique, set-at-none}
 
@@ -25,15 +24,15 @@ top-start n zero r p q = absurd (not-suc-le-zero p)
 top-start zero (suc k) r p q = let z : ⊥ = omega (arith, binom-none k) in absurd z
 top-start (suc n) (suc k) r p q = (omega arith, omega (arith, binom-none k))
 
-pub top-found : (n k r low high : ℕ) → low < high → high ≤ n → high - low ≤ 1 → binom low k ≤ r → r < binom high k → TopWire n k r low
+pub top-found : (n k r low high : ℕ) → low < high → high ≤ n → high - low ≤ 1 → binom low k ≤ r → r < binom high k → (low < n) × (binom low k ≤ r) × (r < binom (low + 1) k)
 top-found n k r low high a b c p q =
     let e : high ≡ low + 1 = omega arith in
-    record { inside = omega arith; before = p; after = subst (λ (m : ℕ). r < binom m k) e q }
+    (omega arith, p, subst (λ (m : ℕ). r < binom m k) e q)
 
 -- what a turn of set from rank works with: `left` wires to go, the highest of them x
-module _ (n left r x : ℕ) (some : 0 < left) (top : TopWire n left r x) where
+module _ (n left r x : ℕ) (some : 0 < left) (inside : x < n) (before : binom x left ≤ r) (after : r < binom (x + 1) left) where
   pub unrank-next : binom (x + 1) left - 1 - r < binom x (left - 1)
-  unrank-next = go left some (top .before) (top .after)
+  unrank-next = go left some before after
     where
       go : (left : ℕ) → 0 < left → binom x left ≤ r → r < binom (x + 1) left → binom (x + 1) left - 1 - r < binom x (left - 1)
       go zero p a b = absurd (not-suc-le-zero p)
@@ -43,7 +42,7 @@ module _ (n left r x : ℕ) (some : 0 < left) (top : TopWire n left r x) where
           subst (λ (m : ℕ). binom (x + 1) (suc k) - 1 - r < binom x m) (sym e) (omega arith)
 
   pub unrank-set : setAt n left r ≡ setAt x (left - 1) (binom (x + 1) left - 1 - r) ++ (x ∷ [])
-  unrank-set = go left some (top .after) unrank-next
+  unrank-set = go left some after unrank-next
     where
       go : (left : ℕ) → 0 < left → r < binom (x + 1) left → binom (x + 1) left - 1 - r < binom x (left - 1) →
           setAt n left r ≡ setAt x (left - 1) (binom (x + 1) left - 1 - r) ++ (x ∷ [])
@@ -52,17 +51,17 @@ module _ (n left r x : ℕ) (some : 0 < left) (top : TopWire n left r x) where
           let e : suc k - 1 ≡ k = omega arith in
           let q = binom (x + 1) (suc k) - 1 - r in
           let s : r + suc q ≡ binom (suc x) (suc k) = omega (arith, ap (λ (m : ℕ). binom m (suc k)) (add-one x)) in
-          set-at-step n k x q r (top .inside) (subst (λ (m : ℕ). q < binom x m) e b) s
+          set-at-step n k x q r inside (subst (λ (m : ℕ). q < binom x m) e b) s
           ∙ ap (λ (m : ℕ). setAt x m q ++ (x ∷ [])) (sym e)
 
 -- the set at the rank and what lies past it in the buffer, before and after the highest wire is written
-pub unrank-step : (n left r x : ℕ) (out goal : List ℕ) → 0 < left → left ≤ length out → TopWire n left r x → goal ≡ setAt n left r ++ drop left out →
+pub unrank-step : (n left r x : ℕ) (out goal : List ℕ) → 0 < left → left ≤ length out → x < n → binom x left ≤ r → r < binom (x + 1) left → goal ≡ setAt n left r ++ drop left out →
     goal ≡ setAt x (left - 1) (binom (x + 1) left - 1 - r) ++ drop (left - 1) (set out (left - 1) x)
-unrank-step n left r x out goal some room top so-far =
+unrank-step n left r x out goal some room inside before after so-far =
     let front = setAt x (left - 1) (binom (x + 1) left - 1 - r) in
     let at : left - 1 < length out = omega arith in
     so-far
-    ∙ ap (λ (s : List ℕ). s ++ drop left out) (unrank-set n left r x some top)
+    ∙ ap (λ (s : List ℕ). s ++ drop left out) (unrank-set n left r x some inside before after)
     ∙ append-assoc front (x ∷ []) (drop left out)
     ∙ ap (λ (s : List ℕ). front ++ s) (sym (written out (left - 1) left x at (omega arith)))
   where

@@ -8,13 +8,11 @@
 --     placeOf s l     the first place at which s stands in l
 --     rankOf n s      the rank of s among the sets of its size out of n wires
 --     timesIn s l     at how many places of l the list s stands
---     TopWire n k r wire     the wire is the highest of the set at rank r
-use Prim.Native.Nat.{ℕ, zero, suc, _+_, _≤_, _<_}
+use Prim.Native.Nat.{ℕ, zero, suc, _+_}
 use mathlib.Core.Bool.{Bool, true, false, cond, _&&_}
 use mathlib.Core.List.{List, [], _∷_, _++_, map, reverse}
 use lib.Dec.{ltb, eqb}
 use lib.ListN.{length, getD}
-use Rattle.counts.specs.Counts.{binom}
 
 -- first those without wire n in their order, then those with it, in the reverse order of their other k wires
 unfoldable pub revolving : ℕ → ℕ → List (List ℕ)
@@ -54,9 +52,3 @@ rankOf n s = placeOf s (revolving n (length s))
 abbrev pub timesIn : List ℕ → List (List ℕ) → ℕ
 timesIn s [] = 0
 timesIn s (t ∷ l) = cond (same s t) 1 0 + timesIn s l
-
--- the highest wire of the set at rank r: the sets of k out of as many wires stand before r, those out of one more do not
-pub record TopWire (n k r wire : ℕ) : Type 0 where
-  pub inside : wire < n
-  pub before : binom wire k ≤ r
-  pub after : r < binom (wire + 1) k

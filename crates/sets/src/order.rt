@@ -6,14 +6,14 @@ ghost use mathlib.Core.List.{_++_};
 ghost use Prim.Native.Nat.{_+_, _≤_, _<_};
 ghost use lib.ListN.{length, drop};
 ghost use Rattle.counts.specs.Counts.{binom, Counts};
-ghost use Rattle.sets.specs.Order.{setAt, rankOf, rising, below, TopWire};
+ghost use Rattle.sets.specs.Order.{setAt, rankOf, rising, below};
 use counts::count;
 
-// The highest wire of the set at rank r: sets of k out of `wire` wires end at or before r, those out of one more after it.
+// The highest wire of the set at rank r: the sets of k out of as many wires stand before r, those out of one more go past it.
 fn top_wire(table: &[u64; 4104], n: usize, k: usize, r: u64) -> usize
     requires { ⌜ Counts (now table) ⌝ }
     requires { ⌜ (n ≤ 512) × (k ≤ 7) × (0 < k) × (r < binom n k) ⌝ }
-    ensures { λ wire. ⌜ TopWire n k r wire ⌝ }
+    ensures { λ wire. ⌜ (wire < n) × (binom wire k ≤ r) × (r < binom (wire + 1) k) ⌝ }
 {
     let mut low = 0;
     let mut high = n;

@@ -58,11 +58,11 @@ loop-again c =
     let top = c .before .top-wire .ensures in
     let some = c .before .before .loop-test .taken in
     let count = c .count .ensures in (
-      omega (arith, top .inside, l .inv .0),
+      omega (arith, top .0, l .inv .0),
       search needs,
       length-set (l .set) (l .left - 1) wire ∙ l .inv .2,
-      rw count (unrank-next (l .n) (l .left) (l .r) wire some top),
-      rw count (unrank-step (l .n) (l .left) (l .r) wire (l .set) _ some (omega (arith, l .inv .2, c .before .before .before .before .before .pre)) top (l .inv .4)),
+      rw count (unrank-next (l .n) (l .left) (l .r) wire some (top .0) (top .1) (top .2)),
+      rw count (unrank-step (l .n) (l .left) (l .r) wire (l .set) _ some (omega (arith, l .inv .2, c .before .before .before .before .before .pre)) (top .0) (top .1) (top .2) (l .inv .4)),
     )
 
 same-length : tie.Need-same-length Inv-loop μ-loop
