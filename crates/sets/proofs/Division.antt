@@ -6,17 +6,17 @@
 --     job-of-rank, one-job, rank-counted     every rank below the count, and no other, is in exactly one job
 --     visited-once       every set is visited by exactly one job, at exactly one rank of it
 use Prim.Native.Nat.{ℕ, zero, suc, _+_, _-_, _*_, _/_, _%_, _≤_, _<_}
-use native.Mathlib.Nat.{mod-lt, mul-le-mul, mul-add-div-right, mul-assoc, mul-add, div-add-mod', zero-mul, zero-div, mul-comm, mul-div-cancel-left, suc-mul, le-div-iff-mul-le, div-mul-le-self, le-refl, le-trans, le-of-suc-le-suc, not-suc-le-zero, eq-or-lt-of-le, mul-le-mul-right}
+use native.Mathlib.Nat.{mod-lt, mul-le-mul, mul-add-div-right, mul-assoc, mul-add, div-add-mod', zero-mul, zero-div, mul-div-cancel-left, suc-mul, le-div-iff-mul-le, div-mul-le-self, le-refl, le-trans, le-of-suc-le-suc, eq-or-lt-of-le, mul-le-mul-right}
 use native.Mathlib.Decide.{decLt}
 use native.Mathlib.Omega.{arith}
-use mathlib.Core.Path.{_≡_, refl, sym, _∙_, ap, ap₂, subst}
+use mathlib.Core.Path.{_≡_, sym, _∙_, ap, subst}
 use mathlib.Core.Logic.{_⊎_, inl, inr}
-use mathlib.Core.Bool.{Bool, true}
-use mathlib.Core.List.{List, [], _∷_, _++_}
-use lib.ListN.{length, take, drop}
+use mathlib.Core.Bool.{true}
+use mathlib.Core.List.{List, _++_}
+use lib.ListN.{take}
 use lib.Seq.{take-add, take-all}
 use Rattle.counts.specs.Counts.{binom}
-use Rattle.sets.specs.Order.{revolving, setAt, rankOf, isSet}
+use Rattle.sets.specs.Order.{revolving, rankOf, isSet}
 use Rattle.sets.specs.Division.{start, share, total, visited, joined, HasRank, VisitedOnce}
 use Rattle.sets.proofs.Revolving.{revolving-length, set-of-rank, rank-unique}
 

@@ -1,13 +1,13 @@
 -- The scope's examples on numbering, from the definitions that the contracts cite.
 use Prim.Native.Nat.{ℕ, _*_, _/_, _%_, _^_}
 use mathlib.Core.Path.{_≡_, refl, ap}
-use mathlib.Core.List.{List, [], _∷_}
+use mathlib.Core.List.{[], _∷_}
 use native.Mathlib.Omega.{arith}
 use Rattle.counts.specs.Counts.{binom}
-use Rattle.sets.specs.Order.{revolving, setAt, rankOf}
+use Rattle.sets.specs.Order.{revolving, setAt}
 use Rattle.sets.specs.Division.{start}
-use Rattle.sets.specs.Answers.{values, refusal, setCount, setFromRank, rankFromSet, jobRanks}
-use Rattle.counts.proofs.Rows.{row, binom-row}
+use Rattle.sets.specs.Answers.{values, setCount, setFromRank, rankFromSet, jobRanks}
+use Rattle.counts.proofs.Rows.{binom-row}
 
 pairs-of-four : revolving 4 2 ≡ (0 ∷ 1 ∷ []) ∷ (1 ∷ 2 ∷ []) ∷ (0 ∷ 2 ∷ []) ∷ (2 ∷ 3 ∷ []) ∷ (1 ∷ 3 ∷ []) ∷ (0 ∷ 3 ∷ []) ∷ []
 unfolding revolving

@@ -6,17 +6,16 @@
 --     oneIf                                    1 where a test passes, else 0
 --     times-append, times-reverse, times-snoc, times-empty     how often a list stands in a list of lists
 --     times-at, place-in, place-at             the places at which it stands
-use Prim.Native.Nat.{ℕ, zero, suc, _+_, _-_, _≤_, _<_}
-use native.Mathlib.Nat.{add-zero, zero-add, add-comm, add-assoc, not-suc-le-zero, eq-or-lt-of-le, le-of-suc-le-suc, suc-ne-zero}
+use Prim.Native.Nat.{ℕ, zero, suc, _+_, _≤_, _<_}
+use native.Mathlib.Nat.{zero-add, not-suc-le-zero, le-of-suc-le-suc, suc-ne-zero}
 use native.Mathlib.Omega.{arith}
-use mathlib.Core.Path.{_≡_, refl, sym, _∙_, ap, ap₂, subst}
+use mathlib.Core.Path.{_≡_, refl, sym, _∙_, ap, ap₂}
 use mathlib.Core.Logic.{_⊎_, inl, inr}
 use mathlib.Core.Bool.{Bool, true, false, cond, _&&_, true≢false, and-false, and-true, and-assoc}
-use mathlib.Core.List.{List, [], _∷_, _++_, map, reverse, reverse-cons, append-nil, append-assoc}
-use borrow.Author.Tests.{eq-eqb, ne-eqb, eqb-true}
+use mathlib.Core.List.{List, [], _∷_, _++_, map, reverse, reverse-cons}
+use borrow.Author.Tests.{eq-eqb, eqb-true}
 use lib.Dec.{eqb}
-use lib.ListN.{length, getD, length-append, length-reverse, List·getD-append}
-use lib.Seq.{getD-append-add, getD-append-seam}
+use lib.ListN.{length, getD, length-reverse, List·getD-append}
 use Rattle.counts.proofs.Lists.{and-left, and-right, getD-second}
 use Rattle.sets.specs.Order.{same, timesIn, placeOf}
 

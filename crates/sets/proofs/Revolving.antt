@@ -7,7 +7,7 @@
 --     set-at-wider        more wires continue the list
 --     set-at-step         the set at a rank, from its highest wire and the rank of the rest
 use Prim.Native.Nat.{ℕ, zero, suc, _+_, _-_, _≤_, _<_}
-use native.Mathlib.Nat.{add-zero, zero-add, add-suc, suc-add, not-suc-le-zero, le-of-suc-le-suc, eq-or-lt-of-le, le-refl}
+use native.Mathlib.Nat.{add-zero, zero-add, not-suc-le-zero, le-of-suc-le-suc, eq-or-lt-of-le}
 use native.Mathlib.Decide.{decLt}
 use native.Mathlib.Omega.{arith}
 use mathlib.Core.Path.{_≡_, refl, sym, _∙_, ap, ap₂, subst}
@@ -18,7 +18,7 @@ use borrow.Author.Tests.{lt-ltb, le-ltb, eq-eqb, ne-eqb}
 use lib.Dec.{ltb, eqb, eqb·zero-suc, eqb·suc-zero, leb·suc-zero}
 use lib.ListN.{length, getD, length-append, length-reverse, length-map, List·getD-append}
 use Rattle.counts.specs.Counts.{binom}
-use Rattle.counts.proofs.Lists.{and-left, and-right, getD-second}
+use Rattle.counts.proofs.Lists.{getD-second}
 use Rattle.counts.proofs.Binomial.{binom-zero, binom-none, binom-suc, binom-wider}
 use Rattle.sets.specs.Order.{revolving, setAt, rising, below, isSet, rankOf, placeOf, timesIn}
 use Rattle.sets.proofs.Lists.{getD-map, getD-reverse, ends-or-empty, oneIf, times-append, times-reverse, times-snoc, times-empty, times-at, place-in, place-at}

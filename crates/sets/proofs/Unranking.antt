@@ -7,11 +7,11 @@ use Prim.Native.Nat.{ℕ, zero, suc, _+_, _-_, _≤_, _<_}
 use native.Mathlib.Nat.{not-suc-le-zero}
 use native.Mathlib.Numerals.{add-one}
 use native.Mathlib.Omega.{arith}
-use mathlib.Core.Path.{_≡_, refl, sym, _∙_, ap, ap₂, subst}
-use mathlib.Core.Bool.{Bool, true, _&&_}
+use mathlib.Core.Path.{_≡_, sym, _∙_, ap, ap₂, subst}
+use mathlib.Core.Bool.{true, _&&_}
 use mathlib.Core.List.{List, [], _∷_, _++_, append-assoc}
 use lib.ListN.{length, getD, take, drop, set, length-set}
-use lib.Seq.{drop-cons, take-suc, take-length, take-all, set-split, getD-set-same, drop-set-lt}
+use lib.Seq.{drop-cons, take-suc, take-length, getD-set-same, drop-set-lt}
 use Rattle.counts.specs.Counts.{binom}
 use Rattle.counts.proofs.Binomial.{binom-zero, binom-none, binom-suc, binom-wider}
 use Rattle.sets.specs.Order.{setAt, rankOf, rising, below}

@@ -7,7 +7,7 @@
 --     maxWires, maxSize, maxJobs                       the limits
 --     setCount, setFromRank, rankFromSet, jobRanks     what each entry is to tell
 use Prim.Native.Nat.{ℕ, suc}
-use mathlib.Core.Bool.{Bool, cond, _&&_, _||_, not}
+use mathlib.Core.Bool.{cond, _&&_, _||_, not}
 use mathlib.Core.List.{List, [], _∷_, _++_}
 use lib.Dec.{ltb, leb, eqb}
 use lib.ListN.{length, drop}

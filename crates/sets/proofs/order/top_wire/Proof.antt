@@ -1,7 +1,6 @@
 -- `sets::order::top_wire` meets its contract: the count at `low` is at most the rank and that at `high` above it, until the two are neighbours.
 -- Assumes nothing.
 use Prim.Native.Nat.{_≤_, _<_, _-_}
-use native.Mathlib.Omega.{arith}
 use borrow.Author.Needs.{needs}
 use Rattle.counts.specs.Counts.{binom}
 use Rattle.sets.proofs.Unranking.{top-start, top-found}

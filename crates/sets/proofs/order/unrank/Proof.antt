@@ -1,9 +1,9 @@
 -- `sets::order::unrank` meets its contract: before each turn the set that is left to write, with what the buffer holds past it, is the set
 -- that was asked for with what the buffer held past that. Assumes nothing.
-use Prim.Native.Nat.{_≤_, _<_, _-_, _+_}
+use Prim.Native.Nat.{_≤_, _<_, _-_}
 use native.Mathlib.Omega.{arith}
-use mathlib.Core.Path.{_≡_, sym, subst, _∙_, ap, refl}
-use mathlib.Core.List.{_++_, []}
+use mathlib.Core.Path.{_≡_, _∙_, refl}
+use mathlib.Core.List.{_++_}
 use lib.ListN.{length, drop, length-set}
 use borrow.Author.Needs.{needs}
 use Rattle.counts.specs.Counts.{binom}
