@@ -1,8 +1,9 @@
 -- Pascal's rule as equations, and what follows from it.
 --     binom-zero, binom-none, binom-suc     the rule
 --     binom-wider                           more wires have no fewer sets
+--     binom-above                           a size above the wires has count 0
 use Prim.Native.Nat.{ℕ, zero, suc, _+_, _≤_, _<_}
-use native.Mathlib.Nat.{le-refl, le-of-suc-le-suc, eq-or-lt-of-le}
+use native.Mathlib.Nat.{le-refl, le-of-suc-le-suc, eq-or-lt-of-le, not-suc-le-zero}
 use native.Mathlib.Omega.{arith}
 use mathlib.Core.Path.{_≡_, refl}
 use mathlib.Core.Logic.{_⊎_, inl, inr}
@@ -29,3 +30,8 @@ binom-wider m (suc n) (suc k) h = go (eq-or-lt-of-le h) (binom-wider m n (suc k)
     go : (m ≡ suc n) ⊎ (m < suc n) → (m ≤ n → binom m (suc k) ≤ binom n (suc k)) → binom m (suc k) ≤ binom (suc n) (suc k)
     go (inl e) ih = rw e (le-refl (binom (suc n) (suc k)))
     go (inr p) ih = omega (arith, ih (le-of-suc-le-suc p), binom-suc n k)
+
+pub binom-above : (n k : ℕ) → n < k → binom n k ≡ 0
+binom-above n zero h = absurd (not-suc-le-zero h)
+binom-above zero (suc k) h = binom-none k
+binom-above (suc n) (suc k) h = omega (arith, binom-suc n k, binom-above n (suc k) (omega arith), binom-above n k (le-of-suc-le-suc h))

@@ -16,8 +16,8 @@ use mathlib.Core.List.{List, _++_}
 use lib.ListN.{take}
 use lib.Seq.{take-add, take-all}
 use Rattle.counts.specs.Counts.{binom}
-use Rattle.sets.specs.Order.{revolving, rankOf, isSet}
-use Rattle.sets.specs.Division.{start, share, total, visited, joined, HasRank, VisitedOnce}
+use Rattle.sets.specs.Order.{revolving, setAt, rankOf, isSet}
+use Rattle.sets.specs.Division.{start, share, total, visited, joined, HasRank, ExactlyOne}
 use Rattle.sets.proofs.Revolving.{revolving-length, set-of-rank, rank-unique}
 
 pub start-zero : (all jobs : ℕ) → start all jobs 0 ≡ 0
@@ -120,7 +120,7 @@ one-job all jobs i j r h p q = passes-once (start all jobs) (λ m. start-rises a
 pub rank-counted : (all jobs i r : ℕ) → 0 < jobs → HasRank all jobs i r → r < all
 rank-counted all jobs i r h p = omega (arith, p .to, start-within all jobs (suc i) h (p .inside))
 
-pub visited-once : (n k jobs : ℕ) → 0 < jobs → (s : List ℕ) → isSet n k s ≡ true → VisitedOnce n k jobs s
+pub visited-once : (n k jobs : ℕ) → 0 < jobs → (s : List ℕ) → isSet n k s ≡ true → ExactlyOne (HasRank (binom n k) jobs) (λ r. setAt n k r ≡ s)
 visited-once n k jobs h s e =
     let there = set-of-rank n k s e in
     let found = job-of-rank (binom n k) jobs (rankOf n s) h (there .0) in
@@ -128,7 +128,7 @@ visited-once n k jobs h s e =
       job = found .0;
       rank = rankOf n s;
       visits = found .1;
-      stands = there .1;
+      here = there .1;
       only = λ i r p q.
           let same : rankOf n s ≡ r = rank-unique n k r s (rank-counted (binom n k) jobs i r h p) q in
           (one-job (binom n k) jobs i (found .0) (rankOf n s) h (subst (HasRank (binom n k) jobs i) (sym same) p) (found .1), sym same);

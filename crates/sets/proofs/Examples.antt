@@ -1,50 +1,71 @@
--- The scope's examples on numbering, from the definitions that the contracts cite.
-use Prim.Native.Nat.{ℕ, _*_, _/_, _%_, _^_}
-use mathlib.Core.Path.{_≡_, refl, ap}
-use mathlib.Core.List.{[], _∷_}
+-- The scope's examples on numbering, and both sides of every limit, from the definitions that the contracts cite.
+use Prim.Native.Nat.{ℕ, _*_, _/_, _%_, _^_, _≤_}
 use native.Mathlib.Omega.{arith}
+use mathlib.Core.Path.{_≡_, refl, ap, subst, _∙_}
+use mathlib.Core.List.{[], _∷_}
+use lib.ListN.{replicate}
 use Rattle.counts.specs.Counts.{binom}
+use Rattle.counts.proofs.Rows.{binom-row}
+use Rattle.counts.proofs.Binomial.{binom-wider}
 use Rattle.sets.specs.Order.{revolving, setAt}
 use Rattle.sets.specs.Division.{start}
-use Rattle.sets.specs.Answers.{values, setCount, setFromRank, rankFromSet, jobRanks}
-use Rattle.counts.proofs.Rows.{binom-row}
+use Rattle.sets.specs.Answers.{values, refusal, turnedDown, setCount, setFromRank, rankFromSet, jobRanks}
+use Rattle.sets.specs.Visits.{SetTells}
+use Rattle.sets.proofs.Revolving.{set-at-wider}
+use Rattle.sets.proofs.Entries.{at-told}
 
-pairs-of-four : revolving 4 2 ≡ (0 ∷ 1 ∷ []) ∷ (1 ∷ 2 ∷ []) ∷ (0 ∷ 2 ∷ []) ∷ (2 ∷ 3 ∷ []) ∷ (1 ∷ 3 ∷ []) ∷ (0 ∷ 3 ∷ []) ∷ []
+pub pairs-of-four : revolving 4 2 ≡ (0 ∷ 1 ∷ []) ∷ (1 ∷ 2 ∷ []) ∷ (0 ∷ 2 ∷ []) ∷ (2 ∷ 3 ∷ []) ∷ (1 ∷ 3 ∷ []) ∷ (0 ∷ 3 ∷ []) ∷ []
 unfolding revolving
 pairs-of-four = refl
 
-rank-one-of-pairs : setAt 24 2 1 ≡ 1 ∷ 2 ∷ []
-unfolding revolving
-rank-one-of-pairs = refl
+pairs-of-three : (binom 3 2 ≡ 3) × (setAt 3 2 1 ≡ 1 ∷ 2 ∷ [])
+unfolding binom revolving
+pairs-of-three = (refl, refl)
 
-pair-one-two : rankFromSet 24 (1 ∷ 2 ∷ []) ≡ values (1 ∷ [])
-unfolding revolving
-pair-one-two = refl
+-- rank 1 of pairs is 1, 2, out of any number of wires that has such a pair
+pub rank-one-of-pairs : (n : ℕ) → 3 ≤ n → n ≤ 512 → SetTells n 2 1 (1 ∷ 2 ∷ [])
+rank-one-of-pairs n a b =
+    let three = pairs-of-three .0 in
+    subst (SetTells n 2 1) (set-at-wider 3 n 2 1 a (omega (arith, three)) ∙ pairs-of-three .1)
+    (at-told n 2 b (omega arith) 1 (omega (arith, three, binom-wider 3 n 2 a)))
 
--- a set is written at the start, and the rest of the buffer is as it was
-written-at-start : setFromRank 4 2 5 (9 ∷ 9 ∷ 9 ∷ []) ≡ record { told = values []; held = 0 ∷ 3 ∷ 9 ∷ [] }
+pub written-at-start : setFromRank 4 2 5 (9 ∷ 9 ∷ 9 ∷ []) ≡ record { told = values []; held = 0 ∷ 3 ∷ 9 ∷ [] }
 unfolding binom revolving
 written-at-start = refl
 
-pairs-of-24 : setCount 24 2 ≡ values (276 ∷ [])
+pub pairs-of-24 : setCount 24 2 ≡ values (276 ∷ [])
 unfolding binom
 pairs-of-24 = refl
 
-none-above : setCount 3 4 ≡ values (0 ∷ [])
-unfolding binom
-none-above = refl
-
-job-three-of-seven : jobRanks 24 2 3 7 ≡ values (118 ∷ 157 ∷ [])
+pub job-three-of-seven : jobRanks 24 2 3 7 ≡ values (118 ∷ 157 ∷ [])
 unfolding binom
 job-three-of-seven = refl
 
-fours-of-512 : binom 512 4 ≡ 2829877120
-fours-of-512 = binom-row 512 4 (omega arith)
+fours : binom 512 4 ≡ 2829877120
+fours = binom-row 512 4 (omega arith)
 
--- job 2 of 16 starts here
-job-two-of-sixteen : jobRanks 512 4 2 16 ≡ values (353734640 ∷ 530601960 ∷ [])
-job-two-of-sixteen = ap (λ (all : ℕ). values (start all 16 2 ∷ start all 16 3 ∷ [])) fours-of-512
+pub fours-of-512 : setCount 512 4 ≡ values (2829877120 ∷ [])
+fours-of-512 = ap (λ (all : ℕ). values (all ∷ [])) fours
 
--- and not where a product of 32 bits would put it
-wrapped-product : 2 * 2829877120 % 2 ^ 32 / 16 ≡ 85299184
+pub job-two-of-sixteen : jobRanks 512 4 2 16 ≡ values (353734640 ∷ 530601960 ∷ [])
+job-two-of-sixteen = ap (λ (all : ℕ). values (start all 16 2 ∷ start all 16 3 ∷ [])) fours
+
+-- where a product of 32 bits would put that job
+pub wrapped-product : 2 * 2829877120 % 2 ^ 32 / 16 ≡ 85299184
 wrapped-product = refl
+
+-- the limits: 12 before 17, and the last that is taken
+pub count-limits : (setCount 513 8 ≡ refusal 12) × (setCount 512 8 ≡ refusal 17) × (setCount 512 7 ≡ values (binom 512 7 ∷ []))
+count-limits = (refl, refl, refl)
+
+pub set-limits : (setFromRank 513 8 0 [] ≡ turnedDown 12 []) × (setFromRank 512 8 0 [] ≡ turnedDown 17 []) × (setFromRank 4 2 6 (9 ∷ []) ≡ turnedDown 16 (9 ∷ [])) × (setFromRank 4 2 6 (9 ∷ 9 ∷ []) ≡ turnedDown 18 (9 ∷ 9 ∷ [])) × (setFromRank 0 0 0 [] ≡ record { told = values []; held = [] })
+unfolding binom revolving
+set-limits = (refl, refl, refl, refl, refl)
+
+pub rank-limits : (rankFromSet 513 (replicate 8 0) ≡ refusal 12) × (rankFromSet 512 (replicate 8 0) ≡ refusal 17) × (rankFromSet 4 (1 ∷ 1 ∷ []) ≡ refusal 21) × (rankFromSet 4 (3 ∷ 4 ∷ []) ≡ refusal 21) × (rankFromSet 4 (0 ∷ 3 ∷ []) ≡ values (5 ∷ [])) × (rankFromSet 4 [] ≡ values (0 ∷ []))
+unfolding revolving
+rank-limits = (refl, refl, refl, refl, refl, refl)
+
+pub job-limits : (jobRanks 513 8 0 0 ≡ refusal 12) × (jobRanks 512 8 0 0 ≡ refusal 17) × (jobRanks 4 2 0 0 ≡ refusal 19) × (jobRanks 4 2 0 65537 ≡ refusal 19) × (jobRanks 4 2 7 7 ≡ refusal 19) × (jobRanks 4 2 6 7 ≡ values (5 ∷ 6 ∷ [])) × (jobRanks 4 2 65535 65536 ≡ values (5 ∷ 6 ∷ []))
+unfolding binom
+job-limits = (refl, refl, refl, refl, refl, refl, refl)

@@ -4,4 +4,5 @@ pub mod Rising
 pub mod Revolving
 pub mod Division
 pub mod Unranking
-mod Examples
+pub mod Entries
+pub mod Examples

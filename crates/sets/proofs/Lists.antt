@@ -3,7 +3,6 @@
 --     bool-ext                                 two tests that pass together are equal
 --     same-refl, same-true, same-snoc          what the test of two lists says
 --     ends-or-empty                            a list is empty or has a last element
---     oneIf                                    1 where a test passes, else 0
 --     times-append, times-reverse, times-snoc, times-empty     how often a list stands in a list of lists
 --     times-at, place-in, place-at             the places at which it stands
 use Prim.Native.Nat.{ℕ, zero, suc, _+_, _≤_, _<_}
@@ -17,7 +16,7 @@ use borrow.Author.Tests.{eq-eqb, eqb-true}
 use lib.Dec.{eqb}
 use lib.ListN.{length, getD, length-reverse, List·getD-append}
 use Rattle.counts.proofs.Lists.{and-left, and-right, getD-second}
-use Rattle.sets.specs.Order.{same, timesIn, placeOf}
+use Rattle.sets.specs.Order.{same, timesIn, placeOf, oneIf}
 
 module _ {A B : Type 0} where
   pub getD-map : (f : A → B) (l : List A) (i : ℕ) (d : A) (e : B) → i < length l → getD (map f l) i e ≡ f (getD l i d)
@@ -71,9 +70,6 @@ ends-or-empty (a ∷ s) = go (ends-or-empty s)
     go : (s ≡ []) ⊎ ((t : List ℕ) × (x : ℕ) × (s ≡ t ++ (x ∷ []))) → (_≡_ {A = List ℕ} (a ∷ s) []) ⊎ ((t : List ℕ) × (x : ℕ) × (a ∷ s ≡ t ++ (x ∷ [])))
     go (inl e) = inr ([], a, ap {B = List ℕ} (λ l. a ∷ l) e)
     go (inr p) = inr (a ∷ p .0, p .1, ap {B = List ℕ} (λ l. a ∷ l) (p .2))
-
-abbrev pub oneIf : Bool → ℕ
-oneIf b = cond b 1 0
 
 pub times-append : (s : List ℕ) (l m : List (List ℕ)) → timesIn s (l ++ m) ≡ timesIn s l + timesIn s m
 times-append s [] m = sym (zero-add (timesIn s m))

@@ -20,8 +20,8 @@ use lib.ListN.{length, getD, length-append, length-reverse, length-map, List·ge
 use Rattle.counts.specs.Counts.{binom}
 use Rattle.counts.proofs.Lists.{getD-second}
 use Rattle.counts.proofs.Binomial.{binom-zero, binom-none, binom-suc, binom-wider}
-use Rattle.sets.specs.Order.{revolving, setAt, rising, below, isSet, rankOf, placeOf, timesIn}
-use Rattle.sets.proofs.Lists.{getD-map, getD-reverse, ends-or-empty, oneIf, times-append, times-reverse, times-snoc, times-empty, times-at, place-in, place-at}
+use Rattle.sets.specs.Order.{revolving, setAt, rising, below, isSet, rankOf, placeOf, timesIn, oneIf}
+use Rattle.sets.proofs.Lists.{getD-map, getD-reverse, ends-or-empty, times-append, times-reverse, times-snoc, times-empty, times-at, place-in, place-at}
 use Rattle.sets.proofs.Rising.{isSet-snoc, isSet-parts}
 
 -- the sets with wire n

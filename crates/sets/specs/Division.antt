@@ -4,14 +4,14 @@
 --     total j f            the sum of f at 0, 1, .. j - 1
 --     visited n k jobs i   the sets that job i visits, in order
 --     joined j f           the lists that f gives at 0, 1, .. j - 1, one after the other
---     HasRank all jobs i r     rank r is one of job i's
---     VisitedOnce n k jobs s   exactly one job visits the set s, at exactly one of its ranks
+--     HasRank all jobs i r        rank r is one of job i's
+--     ExactlyOne has stands       exactly one job has a rank at which something stands, and it has exactly one
 use Prim.Native.Nat.{ℕ, zero, suc, _+_, _-_, _*_, _/_, _≤_, _<_}
 use mathlib.Core.Path.{_≡_}
 use mathlib.Core.List.{List, [], _++_}
 use lib.ListN.{take, drop}
 use Rattle.counts.specs.Counts.{binom}
-use Rattle.sets.specs.Order.{revolving, setAt}
+use Rattle.sets.specs.Order.{revolving}
 
 -- the floor of the whole product i times all over jobs, which no word has to hold
 abbrev pub start : ℕ → ℕ → ℕ → ℕ
@@ -36,9 +36,9 @@ pub record HasRank (all jobs i r : ℕ) : Type 0 where
   pub from : start all jobs i ≤ r
   pub to : r < start all jobs (suc i)
 
-pub record VisitedOnce (n k jobs : ℕ) (s : List ℕ) : Type 0 where
+pub record ExactlyOne (has : ℕ → ℕ → Type 0) (stands : ℕ → Type 0) : Type 0 where
   pub job : ℕ
   pub rank : ℕ
-  pub visits : HasRank (binom n k) jobs job rank
-  pub stands : setAt n k rank ≡ s
-  pub only : (i r : ℕ) → HasRank (binom n k) jobs i r → setAt n k r ≡ s → (i ≡ job) × (r ≡ rank)
+  pub visits : has job rank
+  pub here : stands rank
+  pub only : (i r : ℕ) → has i r → stands r → (i ≡ job) × (r ≡ rank)

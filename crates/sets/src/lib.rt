@@ -2,7 +2,7 @@
 // a job (scope, "Numbering and dividing"). Every argument may be anything its type holds: what is out of range is refused,
 // in the scope's order, and a refusal alters no lent number.
 ghost use mathlib.Core.Path.{_≡_};
-ghost use Prim.Native.Nat.{_*_, _/_, _≤_, _<_};
+ghost use Prim.Native.Nat.{_≤_, _<_};
 ghost use Rattle.sets.specs.Answers.{refusalNumber, countTold, setTold, rankTold, jobTold, setCount, setFromRank, rankFromSet, jobRanks};
 ghost use Rattle.sets.specs.Division.{start};
 

@@ -1,0 +1,135 @@
+-- What the entries tell, for all that they accept.
+--     count-told      the set count is the number of sets in the published list
+--     told-once       every set is visited by exactly one job that `job` tells, at exactly one rank for which `set_from_rank` writes it
+--     rank-and-set    `rank_from_set` tells r of s exactly when `set_from_rank` writes s for r
+use Prim.Native.Nat.{ℕ, suc, _≤_, _<_}
+use native.Mathlib.Decide.{decLt}
+use native.Mathlib.Omega.{arith}
+use mathlib.Core.Path.{_≡_, refl, sym, _∙_, ap, subst}
+use mathlib.Core.Logic.{_↔_}
+use mathlib.Core.Bool.{Bool, true, false, _&&_}
+use mathlib.Core.List.{List, [], _∷_, _++_, append-nil}
+use borrow.Author.Tests.{le-ltb, le-leb, lt-leb, ne-eqb}
+use lib.Dec.{eqb}
+use lib.ListN.{length, drop, replicate, length-replicate, drop-of-length-le}
+use Rattle.counts.specs.Counts.{binom}
+use Rattle.counts.proofs.Lists.{and-right}
+use Rattle.sets.specs.Order.{revolving, setAt, rankOf, rising, below, isSet}
+use Rattle.sets.specs.Division.{start, HasRank, ExactlyOne}
+use Rattle.sets.specs.Answers.{Lent, values, refusal, setCount, setFromRank, rankFromSet, jobRanks}
+use Rattle.sets.specs.Visits.{JobTells, SetTells, RankTells}
+use Rattle.sets.proofs.Rising.{isSet-parts, parts-isSet}
+use Rattle.sets.proofs.Revolving.{revolving-length, set-at-is-set, set-of-rank, rank-unique}
+use Rattle.sets.proofs.Division.{visited-once, rank-counted}
+
+pub count-told : (n k : ℕ) → n ≤ 512 → k ≤ 7 → setCount n k ≡ values (length (revolving n k) ∷ [])
+count-told n k a b = simp (le-ltb 512 n a, le-ltb 7 k b, revolving-length n k)
+
+values-are : (x : ℕ) (y : List ℕ) (m : ℕ) → values (x ∷ y) ≡ refusal m → ⊥
+values-are x y m e = let z : _≡_ {A = ℕ} 0 1 = cc in omega arith
+
+-- a job's ranks, as told
+module _ (n k jobs : ℕ) (a : n ≤ 512) (b : k ≤ 7) (some : 0 < jobs) (c : jobs ≤ 65536) where
+  job-told : (i : ℕ) → i < jobs → jobRanks n k i jobs ≡ values (start (binom n k) jobs i ∷ start (binom n k) jobs (suc i) ∷ [])
+  job-told i d = simp (le-ltb 512 n a, le-ltb 7 k b, ne-eqb jobs 0 (omega arith), le-ltb 65536 jobs c, lt-leb jobs i d)
+
+  job-refused : (i : ℕ) → jobs ≤ i → jobRanks n k i jobs ≡ refusal 19
+  job-refused i d = simp (le-ltb 512 n a, le-ltb 7 k b, ne-eqb jobs 0 (omega arith), le-ltb 65536 jobs c, le-leb jobs i d)
+
+  has-told : (i r : ℕ) → HasRank (binom n k) jobs i r → JobTells n k jobs i r
+  has-told i r h = record { from = start (binom n k) jobs i; to = start (binom n k) jobs (suc i); told = job-told i (h .inside); low = h .from; high = h .to }
+
+  told-has : (i r : ℕ) → JobTells n k jobs i r → HasRank (binom n k) jobs i r
+  told-has i r t = go (decLt i jobs)
+    where
+      go : Dec (i < jobs) → HasRank (binom n k) jobs i r
+      go (yes d) =
+          let p = t .told in
+          let q = job-told i d in
+          let e : t .from ≡ start (binom n k) jobs i = cc in
+          let f : t .to ≡ start (binom n k) jobs (suc i) = cc in
+          record { inside = d; from = omega (arith, t .low); to = omega (arith, t .high) }
+      go (no d) = absurd (values-are (t .from) (t .to ∷ []) 19 (sym (t .told) ∙ job-refused i (omega arith)))
+
+-- the set of a rank, as told
+module _ (n k : ℕ) (a : n ≤ 512) (b : k ≤ 7) where
+  pub at-told : (r : ℕ) → r < binom n k → SetTells n k r (setAt n k r)
+  at-told r h buffer room = simp (le-ltb 512 n a, le-ltb 7 k b, le-ltb (length buffer) k room, lt-leb (binom n k) r h)
+
+  at-refused : (r : ℕ) → binom n k ≤ r → (buffer : List ℕ) → k ≤ length buffer → setFromRank n k r buffer ≡ record { told = refusal 18; held = buffer }
+  at-refused r h buffer room = simp (le-ltb 512 n a, le-ltb 7 k b, le-ltb (length buffer) k room, le-leb (binom n k) r h)
+
+  -- a buffer that the set fills
+  abbrev filled : List ℕ
+  filled = replicate k 0
+
+  room : k ≤ length filled
+  room = omega (arith, length-replicate {A = ℕ} k 0)
+
+  told-counted : (r : ℕ) (s : List ℕ) → SetTells n k r s → r < binom n k
+  told-counted r s t = go (decLt r (binom n k))
+    where
+      go : Dec (r < binom n k) → r < binom n k
+      go (yes h) = h
+      go (no h) =
+          let e = sym (t filled room) ∙ at-refused r (omega arith) filled room in
+          let z : ⊥ = nothing-refused (ap (λ (l : Lent). l .told) e) in
+          absurd z
+        where
+          nothing-refused : values [] ≡ refusal 18 → ⊥
+          nothing-refused e = let z : _≡_ {A = ℕ} 0 1 = cc in omega arith
+
+  told-at : (r : ℕ) (s : List ℕ) → SetTells n k r s → setAt n k r ≡ s
+  told-at r s t =
+      let e = ap (λ (l : Lent). l .held) (sym (at-told r (told-counted r s t) filled room) ∙ t filled room) in
+      let none : drop k filled ≡ [] = drop-of-length-le filled {i = k} (omega (arith, length-replicate {A = ℕ} k 0)) in
+      sym (append-nil (setAt n k r)) ∙ ap (λ (l : List ℕ). setAt n k r ++ l) (sym none) ∙ e ∙ ap (λ (l : List ℕ). s ++ l) none ∙ append-nil s
+
+pub told-once : (n k jobs : ℕ) → n ≤ 512 → k ≤ 7 → 0 < jobs → jobs ≤ 65536 → (s : List ℕ) → isSet n k s ≡ true → ExactlyOne (JobTells n k jobs) (λ r. SetTells n k r s)
+told-once n k jobs a b some c s e =
+    let once = visited-once n k jobs some s e in
+    let counted = rank-counted (binom n k) jobs (once .job) (once .rank) some (once .visits) in
+    record {
+      job = once .job;
+      rank = once .rank;
+      visits = has-told n k jobs a b some c (once .job) (once .rank) (once .visits);
+      here = subst (SetTells n k (once .rank)) (once .here) (at-told n k a b (once .rank) counted);
+      only = λ i r p q. once .only i r (told-has n k jobs a b some c i r p) (told-at n k a b r s q);
+    }
+
+-- the rank of a set, as told
+module _ (n : ℕ) (s : List ℕ) (a : n ≤ 512) (b : length s ≤ 7) where
+  rank-told : (rising s && below n s) ≡ true → RankTells n s (rankOf n s)
+  rank-told e = simp (le-ltb 512 n a, le-ltb 7 (length s) b, e)
+
+  rank-refused : (rising s && below n s) ≡ false → rankFromSet n s ≡ refusal 21
+  rank-refused e = simp (le-ltb 512 n a, le-ltb 7 (length s) b, e)
+
+  told-rising : (r : ℕ) → RankTells n s r → (rising s && below n s) ≡ true
+  told-rising r t = go (rising s && below n s) refl
+    where
+      go : (c : Bool) → (rising s && below n s) ≡ c → (rising s && below n s) ≡ true
+      go true e = e
+      go false e = absurd (values-are r [] 21 (sym t ∙ rank-refused e))
+
+pub rank-and-set : (n k r : ℕ) (s : List ℕ) → n ≤ 512 → k ≤ 7 → ((length s ≡ k) × RankTells n s r) ↔ SetTells n k r s
+rank-and-set n k r s a b = (there, back)
+  where
+    there : (length s ≡ k) × RankTells n s r → SetTells n k r s
+    there t =
+        let short : length s ≤ 7 = omega (arith, t .0) in
+        let wires = told-rising n s a short r (t .1) in
+        let p = t .1 in
+        let q = rank-told n s a short wires in
+        let same : rankOf n s ≡ r = cc in
+        let at = set-of-rank n k s (parts-isSet n k s (t .0) wires) in
+        subst (λ (m : ℕ). SetTells n k m s) same (subst (SetTells n k (rankOf n s)) (at .1) (at-told n k a b (rankOf n s) (at .0)))
+
+    back : SetTells n k r s → (length s ≡ k) × RankTells n s r
+    back t =
+        let counted = told-counted n k a b r s t in
+        let at = told-at n k a b r s t in
+        let is-set : isSet n k s ≡ true = subst (λ (l : List ℕ). isSet n k l ≡ true) at (set-at-is-set n k r counted) in
+        let long : length s ≡ k = isSet-parts n k s is-set .0 in
+        let wires : (rising s && below n s) ≡ true = and-right (eqb (length s) k) (rising s && below n s) is-set in
+        (long, rank-told n s a (omega arith) wires ∙ ap (λ (m : ℕ). values (m ∷ [])) (rank-unique n k r s counted at))
