@@ -16,19 +16,22 @@ def revolving(n, k):
 
 
 def unrank(n, k, r):
-    """The set at a rank of an order too long to list."""
+    """The set at a rank of an order too long to list, half by half as the scope says it."""
     if k == 0:
         return []
-    top = max(m for m in range(n) if comb(m, k) <= r)
-    return unrank(top, k - 1, comb(top + 1, k) - 1 - r) + [top]
+    without, with_it = comb(n - 1, k), comb(n - 1, k - 1)
+    if r < without:
+        return unrank(n - 1, k, r)
+    return unrank(n - 1, k - 1, with_it - 1 - (r - without)) + [n - 1]
 
 
 def rank(n, s):
-    """The rank of a set in an order too long to list: count what stands before it."""
+    """The rank of a set in an order too long to list, likewise."""
     if not s:
         return 0
-    top, k = s[-1], len(s)
-    return comb(top, k) + comb(top, k - 1) - 1 - rank(top, s[:-1])
+    if s[-1] != n - 1:
+        return rank(n - 1, s)
+    return comb(n - 1, len(s)) + comb(n - 1, len(s) - 1) - 1 - rank(n - 1, s[:-1])
 
 
 def line(*parts):

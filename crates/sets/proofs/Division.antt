@@ -21,7 +21,7 @@ use Rattle.sets.specs.Division.{start, share, total, visited, joined, Ha
 use Rattle.sets.proofs.Revolving.{revolving-length, set-of-rank, rank-unique}
 
 pub start-zero : (all jobs : ℕ) → start all jobs 0 ≡ 0
-start-zero all jobs = ap (λ (m : ℕ). m / jobs) (zero-mul all) ∙ zero-div jobs
+start-zero all jobs = simp (zero-mul, zero-div)
 
 pub start-all : (all jobs : ℕ) → 0 < jobs → start all jobs jobs ≡ all
 start-all all jobs h = mul-div-cancel-left all h

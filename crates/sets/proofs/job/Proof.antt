@@ -1,25 +1,41 @@
 -- `sets::job` meets its contract: each refusal where its test is the first to fail, else the ranks at which the job and the next one start.
 -- Assumes nothing.
 use native.Mathlib.Numerals.{add-one}
+use native.Mathlib.Omega.{arith}
 use borrow.Author.Tests.{lt-ltb, le-ltb, le-leb, lt-leb, eq-eqb, ne-eqb}
 use borrow.Author.Needs.{needs}
 use Rattle.sets.proofs.job.Statement.{statement}
 use Rattle.sets.proofs.job.Tie as tie
 
 returns : tie.Need-returns
-returns c = simp (lt-ltb _ _ (c .if1 .taken))
+returns c =
+    let a = c .before .args in
+    simp
+    (lt-ltb 512 (a .wires) (omega arith))
 
 returns-2 : tie.Need-returns-2
-returns-2 c = simp (le-ltb _ _ (c .before .if1 .left), lt-ltb _ _ (c .if2 .taken))
+returns-2 c =
+    let a = c .before .before .args in
+    simp
+    (le-ltb 512 (a .wires) (omega arith), lt-ltb 7 (a .size) (omega arith))
 
 returns-3 : tie.Need-returns-3
-returns-3 c = simp (le-ltb _ _ (c .before .before .if1 .left), le-ltb _ _ (c .before .if2 .left), eq-eqb _ _ (c .if3 .taken))
+returns-3 c =
+    let a = c .before .before .before .args in
+    simp
+    (le-ltb 512 (a .wires) (omega arith), le-ltb 7 (a .size) (omega arith), eq-eqb (a .jobs) 0 (omega arith))
 
 returns-4 : tie.Need-returns-4
-returns-4 c = simp (le-ltb _ _ (c .before .before .before .if1 .left), le-ltb _ _ (c .before .before .if2 .left), ne-eqb _ _ (c .before .if3 .left), lt-ltb _ _ (c .if4 .taken))
+returns-4 c =
+    let a = c .before .before .before .before .args in
+    simp
+    (le-ltb 512 (a .wires) (omega arith), le-ltb 7 (a .size) (omega arith), ne-eqb (a .jobs) 0 (omega arith), lt-ltb 65536 (a .jobs) (omega arith))
 
 returns-5 : tie.Need-returns-5
-returns-5 c = simp (le-ltb _ _ (c .before .before .before .before .if1 .left), le-ltb _ _ (c .before .before .before .if2 .left), ne-eqb _ _ (c .before .before .if3 .left), le-ltb _ _ (c .before .if4 .left), le-leb _ _ (c .if5 .taken))
+returns-5 c =
+    let a = c .before .before .before .before .before .args in
+    simp
+    (le-ltb 512 (a .wires) (omega arith), le-ltb 7 (a .size) (omega arith), ne-eqb (a .jobs) 0 (omega arith), le-ltb 65536 (a .jobs) (omega arith), le-leb (a .jobs) (a .job) (omega arith))
 
 table-requires : tie.Need-table-requires
 table-requires c κs = search needs
@@ -39,8 +55,9 @@ first-rank-requires-2 c κs = search needs
 returns-6 : tie.Need-returns-6
 returns-6 c =
     let p = c .before .before .before .before .before in
+    let a = p .before .before .before .before .before .args in
     simp
-    (le-ltb _ _ (p .before .before .before .before .if1 .left), le-ltb _ _ (p .before .before .before .if2 .left), ne-eqb _ _ (p .before .before .if3 .left), le-ltb _ _ (p .before .if4 .left), lt-leb _ _ (p .if5 .left), c .before .first-rank .ensures, c .first-rank2 .ensures, c .before .before .count .ensures, add-one)
+    (le-ltb 512 (a .wires) (omega (arith, p)), le-ltb 7 (a .size) (omega (arith, p)), ne-eqb (a .jobs) 0 (omega (arith, p)), le-ltb 65536 (a .jobs) (omega (arith, p)), lt-leb (a .jobs) (a .job) (omega (arith, p)), c .before .first-rank .ensures, c .first-rank2 .ensures, c .before .before .count .ensures, add-one)
 
 pub job-spec : {M : Type 1} → statement M
 job-spec =

@@ -1,22 +1,34 @@
 -- `sets::rank_from_set` meets its contract: each refusal where its test is the first to fail, else the rank.
 -- Assumes nothing.
 use mathlib.Core.Path.{sym, _∙_}
+use native.Mathlib.Omega.{arith}
+use lib.ListN.{length}
+use denote.Ref.{now}
 use borrow.Author.Tests.{lt-ltb, le-ltb, not-true, not-false}
 use borrow.Author.Needs.{needs}
 use Rattle.sets.proofs.rank_from_set.Statement.{statement}
 use Rattle.sets.proofs.rank_from_set.Tie as tie
 
 returns : tie.Need-returns
-returns c = simp (lt-ltb _ _ (c .if1 .taken))
+returns c =
+    let a = c .before .before .args in
+    simp
+    (lt-ltb 512 (a .wires) (omega arith))
 
 returns-2 : tie.Need-returns-2
-returns-2 c = simp (le-ltb _ _ (c .before .if1 .left), lt-ltb _ _ (c .if2 .taken))
+returns-2 c =
+    let a = c .before .before .before .args in
+    simp
+    (le-ltb 512 (a .wires) (omega arith), lt-ltb 7 (length (now (a .set))) (omega arith))
 
 is-rising-requires : tie.Need-is-rising-requires
 is-rising-requires c κs = search needs
 
 returns-3 : tie.Need-returns-3
-returns-3 c = simp (le-ltb _ _ (c .before .before .before .if1 .left), le-ltb _ _ (c .before .before .if2 .left), sym (c .before .is-rising .ensures) ∙ not-true _ (c .if3 .taken))
+returns-3 c =
+    let a = c .before .before .before .before .before .args in
+    simp
+    (le-ltb 512 (a .wires) (omega arith), le-ltb 7 (length (now (a .set))) (omega arith), sym (c .before .is-rising .ensures) ∙ not-true _ (c .if3 .taken))
 
 table-requires : tie.Need-table-requires
 table-requires c κs = search needs
@@ -29,8 +41,9 @@ rank-requires c κs =
 returns-4 : tie.Need-returns-4
 returns-4 c =
     let p = c .before .before .before in
+    let a = p .before .before .before .before .before .args in
     simp
-    (le-ltb _ _ (p .before .before .before .if1 .left), le-ltb _ _ (p .before .before .if2 .left), sym (p .before .is-rising .ensures) ∙ not-false _ (p .if3 .left), c .rank .ensures)
+    (le-ltb 512 (a .wires) (omega (arith, p)), le-ltb 7 (length (now (a .set))) (omega (arith, p)), sym (p .before .is-rising .ensures) ∙ not-false _ (p .if3 .left), c .rank .ensures)
 
 pub rank-from-set-spec : {M : Type 1} → statement M
 rank-from-set-spec =

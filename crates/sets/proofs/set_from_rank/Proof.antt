@@ -10,10 +10,16 @@ use Rattle.sets.proofs.set_from_rank.Statement.{statement}
 use Rattle.sets.proofs.set_from_rank.Tie as tie
 
 returns : tie.Need-returns
-returns c = simp (lt-ltb _ _ (c .if1 .taken))
+returns c =
+    let a = c .before .before .args in
+    simp
+    (lt-ltb 512 (a .wires) (omega arith))
 
 returns-2 : tie.Need-returns-2
-returns-2 c = simp (le-ltb _ _ (c .before .if1 .left), lt-ltb _ _ (c .if2 .taken))
+returns-2 c =
+    let a = c .before .before .before .args in
+    simp
+    (le-ltb 512 (a .wires) (omega arith), lt-ltb 7 (a .size) (omega arith))
 
 table-requires : tie.Need-table-requires
 table-requires c κs = search needs

@@ -34,13 +34,13 @@ returns : tie.Need-returns Inv-loop μ-loop
 returns c =
     let l = c .before .before .before .loop in
     let a = c .before .before .before .before .args in
-    loop-low (l .next) (a .n) (now (a .set)) (l .i) (l .inv .2) (c .before .before .loop-test .taken) (c .if1 .taken)
+    loop-low (l .next) (a .n) (now (a .set)) (l .i) (l .inv .2) (c .before .before .loop-test .taken) (omega arith)
 
 returns-2 : tie.Need-returns-2 Inv-loop μ-loop
 returns-2 c =
     let l = c .before .before .before .before .loop in
     let a = c .before .before .before .before .before .args in
-    loop-high (l .next) (a .n) (now (a .set)) (l .i) (l .inv .2) (c .before .before .before .loop-test .taken) (c .if2 .taken)
+    loop-high (l .next) (a .n) (now (a .set)) (l .i) (l .inv .2) (c .before .before .before .loop-test .taken) (omega arith)
 
 add-next : tie.Need-add-next Inv-loop μ-loop
 add-next c = omega (arith, c .before .before .shared-slice-known .given (c .before .before .before .before .loop .i))
@@ -58,7 +58,7 @@ loop-again c =
       search needs,
       omega (arith, c .before .before .shared-slice-known .given (l .i)),
       loop-next (l .next) (a .n) (now (a .set)) (l .i) (l .inv .2) (c .before .before .before .loop-test .taken)
-          (c .before .if1 .left) (c .if2 .left),
+          (omega arith) (omega arith),
     )
 
 returns-3 : tie.Need-returns-3 Inv-loop μ-loop

@@ -1,8 +1,8 @@
 -- `sets::order::unrank` meets its contract: before each turn the set that is left to write, with what the buffer holds past it, is the set
 -- that was asked for with what the buffer held past that. Assumes nothing.
-use Prim.Native.Nat.{_≤_, _<_, _-_}
+use Prim.Native.Nat.{_≤_, _<_}
 use native.Mathlib.Omega.{arith}
-use mathlib.Core.Path.{_≡_, _∙_, refl}
+use mathlib.Core.Path.{_≡_, refl}
 use mathlib.Core.List.{_++_}
 use lib.ListN.{length, drop, length-set}
 use borrow.Author.Needs.{needs}
@@ -60,7 +60,7 @@ loop-again c =
     let count = c .count .ensures in (
       omega (arith, top .0, l .inv .0),
       search needs,
-      length-set (l .set) (l .left - 1) wire ∙ l .inv .2,
+      simp length-set (l .inv .2),
       rw count (unrank-next (l .n) (l .left) (l .r) wire some (top .0) (top .1) (top .2)),
       rw count (unrank-step (l .n) (l .left) (l .r) wire (l .set) _ some (omega (arith, l .inv .2, c .before .before .before .before .before .pre)) (top .0) (top .1) (top .2) (l .inv .4)),
     )
