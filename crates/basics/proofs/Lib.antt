@@ -1,0 +1,5 @@
+-- Facts that know nothing of wires.
+--     Tests   tests that pass or fail
+--     Folds   laws of folds over a list, and over the numbers below n
+pub mod Tests
+pub mod Folds

@@ -1,0 +1,5 @@
+-- Definitions that know nothing of wires.
+--     Told    an answer in the scope's own numbers
+--     Folds   sums without carry, tests and counts over a list
+pub mod Told
+pub mod Folds

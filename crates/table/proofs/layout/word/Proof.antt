@@ -1,0 +1,31 @@
+use native.Mathlib.Omega.{arith}
+use Rattle.table.proofs.Fields.{four-bytes, eight-bytes}
+use borrow.Author.Needs.{needs}
+use Rattle.table.proofs.layout.word.Statement.{statement}
+use Rattle.table.proofs.layout.word.Tie as tie
+use Rattle.table.proofs.layout.word.Reads as reads
+use Rattle.table.proofs.layout.word.Lts as lts
+use Rattle.table.proofs.layout.half_word.Reads as half-word-reads
+
+half-word-requires : tie.Need-half-word-requires
+half-word-requires c κs = search needs
+
+add-half-word : tie.Need-add-half-word
+add-half-word c = search needs
+
+half-word-requires-2 : tie.Need-half-word-requires-2
+half-word-requires-2 c κs = search needs
+
+mul-result : tie.Need-mul-result
+mul-result c = search needs
+
+add-result : tie.Need-add-result
+add-result c = search needs
+
+returns : tie.Need-returns
+returns c = eight-bytes _ _ _ _ (c .before .before .before .pre) (c .before .half-word .ensures .0) (c .half-word2 .ensures .0)
+
+pub word-spec : {M : Type 1} → statement M
+word-spec =
+    tie.close
+    (tie.spec half-word-requires add-half-word half-word-requires-2 mul-result add-result returns)

@@ -1,0 +1,17 @@
+use native.Mathlib.Nat.{mod-lt, zero-lt-suc}
+use Rattle.table.proofs.Shares.{columns-bits}
+use borrow.Author.Needs.{needs}
+use Rattle.table.proofs.sums.columns.Statement.{statement}
+use Rattle.table.proofs.sums.columns.Tie as tie
+use Rattle.table.proofs.sums.columns.Reads as reads
+use Rattle.table.proofs.sums.columns.Lts as lts
+use Rattle.table.proofs.sums.gather.Reads as gather-reads
+
+gather-requires : tie.Need-gather-requires
+gather-requires c κs = search needs
+
+returns : tie.Need-returns
+returns c = (mod-lt (c .gather .result) (zero-lt-suc 255), columns-bits _ _ (c .gather .ensures))
+
+pub columns-spec : {M : Type 1} → statement M
+columns-spec = tie.close (tie.spec gather-requires returns)

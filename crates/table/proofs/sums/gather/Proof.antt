@@ -1,0 +1,27 @@
+use Rattle.table.proofs.Shares.{gather-bits}
+use borrow.Author.Needs.{needs}
+use Rattle.table.proofs.sums.gather.Statement.{statement}
+use Rattle.table.proofs.sums.gather.Tie as tie
+use Rattle.table.proofs.sums.gather.Reads as reads
+use Rattle.table.proofs.sums.gather.Lts as lts
+
+shr-two : tie.Need-shr-two
+shr-two c = search needs
+
+mul-four : tie.Need-mul-four
+mul-four c = search needs
+
+shr-four : tie.Need-shr-four
+shr-four c = search needs
+
+mul-result : tie.Need-mul-result
+mul-result c = search needs
+
+shr-result : tie.Need-shr-result
+shr-result c = search needs
+
+returns : tie.Need-returns
+returns c = gather-bits (c .args .word) (c .args .stride)
+
+pub gather-spec : {M : Type 1} → statement M
+gather-spec = tie.close (tie.spec shr-two mul-four shr-four mul-result shr-result returns)

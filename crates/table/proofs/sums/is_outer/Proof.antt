@@ -1,0 +1,24 @@
+use Prim.Native.Nat.{ℕ}
+use mathlib.Core.Path.{ap}
+use lib.Dec.{eqb}
+use Rattle.table.proofs.Adding.{outer-byte}
+use borrow.Author.Needs.{needs}
+use Rattle.table.proofs.sums.is_outer.Statement.{statement}
+use Rattle.table.proofs.sums.is_outer.Tie as tie
+use Rattle.table.proofs.sums.is_outer.Reads as reads
+use Rattle.table.proofs.sums.is_outer.Lts as lts
+
+mul-result : tie.Need-mul-result
+mul-result c = search needs
+
+add-result : tie.Need-add-result
+add-result c = search needs
+
+shared-slice-read-result : tie.Need-shared-slice-read-result
+shared-slice-read-result c = search needs
+
+returns : tie.Need-returns
+returns c = ap (λ (x : ℕ). eqb x 1) (outer-byte _ _ (c .before .pre))
+
+pub is-outer-spec : {M : Type 1} → statement M
+is-outer-spec = tie.close (tie.spec mul-result add-result shared-slice-read-result returns)

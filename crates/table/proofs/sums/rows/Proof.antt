@@ -1,0 +1,20 @@
+use native.Mathlib.Nat.{mod-lt, zero-lt-suc}
+use Rattle.table.proofs.Shares.{rows-bits}
+use borrow.Author.Needs.{needs}
+use Rattle.table.proofs.sums.rows.Statement.{statement}
+use Rattle.table.proofs.sums.rows.Tie as tie
+use Rattle.table.proofs.sums.rows.Reads as reads
+use Rattle.table.proofs.sums.rows.Lts as lts
+use Rattle.table.proofs.sums.gather.Reads as gather-reads
+
+gather-requires : tie.Need-gather-requires
+gather-requires c κs = search needs
+
+gather-requires-2 : tie.Need-gather-requires-2
+gather-requires-2 c κs = search needs
+
+returns : tie.Need-returns
+returns c = (mod-lt (c .gather2 .result) (zero-lt-suc 255), rows-bits _ _ _ (c .before .gather .ensures) (c .gather2 .ensures))
+
+pub rows-spec : {M : Type 1} → statement M
+rows-spec = tie.close (tie.spec gather-requires gather-requires-2 returns)

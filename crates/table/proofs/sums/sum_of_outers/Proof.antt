@@ -1,0 +1,70 @@
+use Rattle.basics.specs.Folds.{upTo}
+use Rattle.wires.specs.Wires.{plus, total}
+use Rattle.wires.specs.Function.{outers}
+use Rattle.table.specs.Layout.{wireAt, wireCount, termsOf}
+use Rattle.table.proofs.Adding.{outers-taken, outers-left}
+use native.Mathlib.Omega.{arith}
+use Prim.Native.Nat.{ℕ, suc, _+_, _-_, _≤_, zero-le}
+use mathlib.Core.Path.{_≡_, refl, sym, _∙_, ap}
+use mathlib.Core.Logic.{⊎-elim}
+use mathlib.Core.List.{map}
+use borrow.Author.Needs.{needs}
+use lib.ListN.{length, take}
+use Rattle.table.proofs.sums.sum_of_outers.Statement.{statement}
+use Rattle.table.proofs.sums.sum_of_outers.Tie as tie
+use Rattle.table.proofs.sums.sum_of_outers.Reads as reads
+use Rattle.table.proofs.sums.sum_of_outers.Lts as lts
+use Rattle.table.proofs.sums.added.Reads as added-reads
+use Rattle.table.proofs.sums.is_outer.Reads as is-outer-reads
+use Rattle.table.proofs.sums.nothing.Reads as nothing-reads
+use Rattle.table.proofs.sums.wire_record.Reads as wire-record-reads
+
+abbrev Inv-loop : tie.InvT-loop
+Inv-loop table count sum₀ wire₀ sum wire = (wire ≤ count) × (termsOf sum ≡ total (outers (map (wireAt table) (upTo wire))))
+
+abbrev μ-loop : tie.MeasureT-loop
+μ-loop table count sum₀ wire₀ sum wire = count - wire
+
+nothing-requires : tie.Need-nothing-requires Inv-loop μ-loop
+nothing-requires c κs = search needs
+
+loop-holds : tie.Need-loop-holds Inv-loop μ-loop
+unfolding upTo
+loop-holds c = (zero-le, c .nothing .ensures)
+
+is-outer-requires : tie.Need-is-outer-requires Inv-loop μ-loop
+is-outer-requires c κs = search needs
+
+wire-record-requires : tie.Need-wire-record-requires Inv-loop μ-loop
+wire-record-requires c κs = search needs
+
+added-requires : tie.Need-added-requires Inv-loop μ-loop
+added-requires c κs = search needs
+
+add-wire : tie.Need-add-wire Inv-loop μ-loop
+add-wire c = search needs
+
+loop-less : tie.Need-loop-less Inv-loop μ-loop
+loop-less c = search needs
+
+loop-again : tie.Need-loop-again Inv-loop μ-loop
+loop-again c = (omega (arith, c .before .before .loop-test .taken), ⊎-elim (λ w. ap termsOf (w .3) ∙ w .2 .ensures ∙ ap (plus (termsOf (c .before .before .before .loop .sum))) (w .1 .ensures) ∙ outers-taken _ _ _ (sym (c .before .is-outer .ensures) ∙ w .0 .taken) (c .before .before .before .loop .inv .1)) (λ w. ap termsOf (w .1) ∙ outers-left _ _ _ (sym (c .before .is-outer .ensures) ∙ w .0 .left) (c .before .before .before .loop .inv .1)) (c .if1 .came))
+
+returns : tie.Need-returns Inv-loop μ-loop
+returns c = c .before .loop .inv .1 ∙ ap (λ (n : ℕ). total (outers (map (wireAt (c .before .before .before .before .args .table .now)) (upTo n)))) (omega (arith, c .loop-test .left, c .before .loop .inv .0))
+
+pub sum-of-outers-spec : {M : Type 1} → statement M
+sum-of-outers-spec =
+    tie.close
+    (tie.spec
+    Inv-loop
+    μ-loop
+    nothing-requires
+    loop-holds
+    is-outer-requires
+    wire-record-requires
+    added-requires
+    add-wire
+    loop-less
+    loop-again
+    returns)

@@ -1,0 +1,19 @@
+use Rattle.table.proofs.Words.{none-from}
+use Rattle.table.proofs.Records.{limit-past}
+use borrow.Author.Needs.{needs}
+use Rattle.table.proofs.tests.ends_below.Statement.{statement}
+use Rattle.table.proofs.tests.ends_below.Tie as tie
+use Rattle.table.proofs.tests.ends_below.Reads as reads
+use Rattle.table.proofs.tests.ends_below.Lts as lts
+
+returns : tie.Need-returns
+returns c = limit-past _ _ (c .if1 .taken)
+
+shr-result : tie.Need-shr-result
+shr-result c = search needs
+
+returns-2 : tie.Need-returns-2
+returns-2 c = none-from 64 _ _ (c .before .fits .word .fits)
+
+pub ends-below-spec : {M : Type 1} → statement M
+ends-below-spec = tie.close (tie.spec returns shr-result returns-2)

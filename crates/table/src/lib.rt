@@ -1,0 +1,76 @@
+// Wire tables: the tests that every operation on a table makes first, and the function check (scope, "Wires", "Breaking sets" and
+// "What each operation turns down"). Tables come from the reader of texts or from a buyer's own tools; nothing here knows the reader.
+// Every argument may be anything its type holds: what is out of range is refused, in the scope's order.
+ghost use mathlib.Core.Path.{_≡_};
+ghost use Prim.Native.Nat.{_≤_, _<_};
+ghost use Rattle.table.specs.Answers.{refusalNumber, tableTold, tableCheck, functionTold, functionCheck, FunctionMeans};
+
+pub mod layout;
+pub mod sums;
+pub mod tests;
+
+pub const MIN_SHARES: usize = 2;
+
+pub const MAX_SHARES: usize = 8;
+
+pub const MAX_MASKS: usize = 64;
+
+pub const MAX_TABLE_BYTES: usize = 12288;
+
+// Why an entry turns its arguments down.
+pub enum Refusal {
+    SharesOrMasks,
+    TableLength,
+    RecordOutOfRange,
+    NoSuchFunction,
+}
+
+impl Refusal {
+    // The scope's number of the refusal.
+    pub fn number(self) -> u64
+        ensures { λ r. ⌜ r ≡ refusalNumber self ⌝ }
+    {
+        match self {
+            Refusal::SharesOrMasks => 11,
+            Refusal::TableLength => 12,
+            Refusal::RecordOutOfRange => 13,
+            Refusal::NoSuchFunction => 20,
+        }
+    }
+}
+
+pub enum TableAnswer {
+    Accepted,
+    Refused(Refusal),
+}
+
+pub enum FunctionAnswer {
+    Yes,
+    No,
+    Refused(Refusal),
+}
+
+// The tests that every operation on a table makes first.
+pub fn table_check(table: &[u8], shares: usize, masks: usize) -> TableAnswer
+    ensures { λ r. ⌜ tableTold r ≡ tableCheck (now (table .entry)) shares masks ⌝ }
+{
+    if shares < MIN_SHARES {
+        return TableAnswer::Refused(Refusal::SharesOrMasks);
+    }
+    if MAX_SHARES < shares {
+        return TableAnswer::Refused(Refusal::SharesOrMasks);
+    }
+    if MAX_MASKS < masks {
+        return TableAnswer::Refused(Refusal::SharesOrMasks);
+    }
+    if table.len() % layout::RECORD_BYTES != 0 {
+        return TableAnswer::Refused(Refusal::TableLength);
+    }
+    if MAX_TABLE_BYTES < table.len() {
+        return TableAnswer::Refused(Refusal::TableLength);
+    }
+    if !tests::records_fit(table, shares, masks) {
+        return TableAnswer::Refused(Refusal::RecordOutOfRange);
+    }
+    TableAnswer::Accepted
+}

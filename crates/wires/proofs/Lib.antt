@@ -1,0 +1,5 @@
+-- The theorems on wires.
+pub mod Value
+pub mod Dependence
+pub mod Function
+pub mod Narrow

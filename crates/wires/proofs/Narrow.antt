@@ -1,0 +1,130 @@
+-- Records hold bits for more shares and masks than a gadget has. Where none is set beyond the gadget's own, nothing changes when all are looked at.
+--     Within                          no bit is set beyond n shares and m masks, of those that a record can hold
+--     within                          where the test finds none beyond
+--     within-total                    so it is for a sum
+--     countA-narrow, masked-narrow    the counts over all bits of a record are those over the gadget's own
+--     breaks-narrow                   and so is the breaking test
+--     empty-breaks-nothing            the empty set breaks nothing
+use Prim.Native.Nat.{ℕ, zero, suc, _+_, _≤_, _<_}
+use native.Mathlib.Decide.{decLe}
+use native.Mathlib.Omega.{arith}
+use mathlib.Core.Path.{_≡_, refl, sym, _∙_, ap, ap₂}
+use mathlib.Core.Logic.{_⊎_, inl, inr}
+use mathlib.Core.Bool.{Bool, true, false, not, _&&_, _||_, xor, true≢false, or-false}
+use mathlib.Core.List.{List, [], _∷_}
+use native.Mathlib.Nat.{zero-add, add-zero, le-trans}
+use borrow.Author.Tests.{le-leb, le-ltb}
+use lib.Dec.{ltb, leb}
+use Rattle.basics.specs.Folds.{fold, some, count, oneIf, upTo}
+use Rattle.basics.proofs.Tests.{or-left, or-right, or-none, false-xor}
+use Rattle.basics.proofs.Folds.{fold-below, fold-narrow, fold-unit, never}
+use Rattle.wires.specs.declared.Notion.{Notion}
+use Rattle.wires.specs.declared.Notion.the-variants.{Ni, Sni}
+use Rattle.wires.specs.Wires.{Terms, Wire, none, plus, total, swap, dependsA, countA, countB, masked, allowed, breaks, beyond}
+
+pub record Within (N M n m : ℕ) (t : Terms) : Type 0 where
+  pub noProduct : (i j : ℕ) → i < N → j < N → (n ≤ i) ⊎ (n ≤ j) → t .product i j ≡ false
+  pub noA : (i : ℕ) → i < N → n ≤ i → t .shareA i ≡ false
+  pub noB : (j : ℕ) → j < N → n ≤ j → t .shareB j ≡ false
+  pub noMask : (k : ℕ) → k < M → m ≤ k → t .mask k ≡ false
+
+unset : (p q : Bool) → (p && q) ≡ false → q ≡ true → p ≡ false
+unset true q e f = absurd (true≢false (sym f ∙ e))
+unset false q e f = refl
+
+module _ (N M n m : ℕ) where
+  pub within : (t : Terms) → beyond N M n m t ≡ false → Within N M n m t
+  unfolding beyond
+  within t e =
+      let p = some (λ i. some (λ j. t .product i j && (leb n i || leb n j)) (upTo N)) (upTo N) in
+      let a = some (λ i. t .shareA i && leb n i) (upTo N) in
+      let b = some (λ j. t .shareB j && leb n j) (upTo N) in
+      let k = some (λ k. t .mask k && leb m k) (upTo M) in
+      let x = or-none (p || a || b) k e in
+      let y = or-none (p || a) b (x .0) in
+      let z = or-none p a (y .0) in record {
+        noProduct = λ i j c d h. unset (t .product i j) (leb n i || leb n j)
+            (never N j (λ j. t .product i j && (leb n i || leb n j)) (never N i (λ i. some (λ j. t .product i j && (leb n i || leb n j)) (upTo N)) (z .0) c) d) (either i j h);
+        noA = λ i c h. unset (t .shareA i) (leb n i) (never N i (λ i. t .shareA i && leb n i) (z .1) c) (le-leb n i h);
+        noB = λ j c h. unset (t .shareB j) (leb n j) (never N j (λ j. t .shareB j && leb n j) (y .1) c) (le-leb n j h);
+        noMask = λ i c h. unset (t .mask i) (leb m i) (never M i (λ i. t .mask i && leb m i) (x .1) c) (le-leb m i h);
+      }
+    where
+      either : (i j : ℕ) → (n ≤ i) ⊎ (n ≤ j) → (leb n i || leb n j) ≡ true
+      either i j (inl h) = or-left (leb n i) (leb n j) (le-leb n i h)
+      either i j (inr h) = or-right (leb n i) (leb n j) (le-leb n j h)
+
+  pub within-none : Within N M n m none
+  within-none = record { noProduct = λ i j c d h. refl; noA = λ i c h. refl; noB = λ j c h. refl; noMask = λ k c h. refl }
+
+  added : (p q : Bool) → p ≡ false → q ≡ false → xor p q ≡ false
+  added p q e f = ap₂ xor e f ∙ false-xor false
+
+  pub within-plus : (t u : Terms) → Within N M n m t → Within N M n m u → Within N M n m (plus t u)
+  within-plus t u a b = record {
+    noProduct = λ i j c d h. added (t .product i j) (u .product i j) (a .noProduct i j c d h) (b .noProduct i j c d h);
+    noA = λ i c h. added (t .shareA i) (u .shareA i) (a .noA i c h) (b .noA i c h);
+    noB = λ j c h. added (t .shareB j) (u .shareB j) (a .noB j c h) (b .noB j c h);
+    noMask = λ k c h. added (t .mask k) (u .mask k) (a .noMask k c h) (b .noMask k c h);
+  }
+
+  within-swap : (t : Terms) → Within N M n m t → Within N M n m (swap t)
+  within-swap t a = record { noProduct = λ i j c d h. a .noProduct j i d c (exchange i j h); noA = a .noB; noB = a .noA; noMask = a .noMask }
+    where
+      exchange : (i j : ℕ) → (n ≤ i) ⊎ (n ≤ j) → (n ≤ j) ⊎ (n ≤ i)
+      exchange i j (inl h) = inr h
+      exchange i j (inr h) = inl h
+
+-- every wire of a list is within
+abbrev pub AllWithin : ℕ → ℕ → ℕ → ℕ → List Wire → Type 0
+AllWithin N M n m [] = Unit {0}
+AllWithin N M n m (w ∷ s) = Within N M n m (w .terms) × AllWithin N M n m s
+
+pub within-total : (N M n m : ℕ) (s : List Wire) → AllWithin N M n m s → Within N M n m (total s)
+within-total N M n m [] h = within-none N M n m
+within-total N M n m (w ∷ s) h = within-plus N M n m (w .terms) (total s) (h .0) (within-total N M n m s (h .1))
+
+module _ (N M n m : ℕ) (small : n ≤ N) (few : m ≤ M) where
+  some-narrow : (n N : ℕ) (f : ℕ → Bool) → n ≤ N → ((i : ℕ) → n ≤ i → i < N → f i ≡ false) → some f (upTo N) ≡ some f (upTo n)
+  some-narrow = fold-narrow _||_ false (λ x. refl) or-false
+
+  pub depends-narrow : (t : Terms) → Within N M n m t → (i : ℕ) → i < N → dependsA N t i ≡ dependsA n t i
+  depends-narrow t h i c = ap (λ (b : Bool). b || t .shareA i) (some-narrow n N (t .product i) small (λ j l d. h .noProduct i j c d (inr l)))
+
+  pub countA-narrow : (t : Terms) → Within N M n m t → countA N t ≡ countA n t
+  unfolding countA
+  countA-narrow t h =
+      fold-below _+_ 0 N (λ i. oneIf (dependsA N t i)) (λ i. oneIf (dependsA n t i)) (λ i c. ap oneIf (depends-narrow t h i c))
+      ∙ fold-narrow _+_ 0 zero-add add-zero n N (λ i. oneIf (dependsA n t i)) small (λ i l c. ap oneIf (beyond-none i l c))
+    where
+      beyond-none : (i : ℕ) → n ≤ i → i < N → dependsA n t i ≡ false
+      beyond-none i l c =
+          ap₂ (λ (a b : Bool). a || b)
+          (fold-below _||_ false n (t .product i) (λ j. false) (λ j d. h .noProduct i j c (le-trans d small) (inl l)) ∙ fold-unit _||_ false (λ x. refl) (λ j. false) (upTo n) (λ j. refl))
+          (h .noA i c l)
+
+  pub countB-narrow : (t : Terms) → Within N M n m t → countB N t ≡ countB n t
+  countB-narrow t h = countA-narrow (swap t) (within-swap N M n m t h)
+
+  pub masked-narrow : (t : Terms) → Within N M n m t → masked M t ≡ masked m t
+  unfolding masked
+  masked-narrow t h = some-narrow m M (t .mask) few (λ k l c. h .noMask k c l)
+
+  pub breaks-narrow : (notion : Notion) (s : List Wire) → AllWithin N M n m s → breaks notion N M s ≡ breaks notion n m s
+  unfolding breaks
+  breaks-narrow notion s h =
+      let w = within-total N M n m s h in
+      ap₂ (λ (a b : Bool). not a && b) (masked-narrow (total s) w)
+      (ap₂ (λ (x y : ℕ). ltb (allowed notion s) x || ltb (allowed notion s) y) (countA-narrow (total s) w) (countB-narrow (total s) w))
+
+pub empty-breaks-nothing : (notion : Notion) (n m : ℕ) → breaks notion n m [] ≡ false
+unfolding breaks countA
+empty-breaks-nothing notion n m =
+    ap (λ (b : Bool). not (masked m none) && b) (ap₂ (λ (x y : ℕ). ltb 0 x || ltb 0 y) (nothing n) (nothing n)) ∙ last (masked m none)
+  where
+    nothing : (n : ℕ) → countA n none ≡ 0
+    nothing n = fold-unit _+_ 0 zero-add (λ i. oneIf (some (λ j. false) (upTo n) || false)) (upTo n) (λ i. ap (λ (b : Bool). oneIf (b || false)) (fold-unit _||_ false (λ x. refl) (λ j. false) (upTo n) (λ j. refl)))
+
+    last : (b : Bool) → (not b && false) ≡ false
+    last true = refl
+    last false = refl

@@ -1,0 +1,5 @@
+-- The definitions of wires.
+--     Wires      what a wire computes, sums of wires, dependence, breaking sets
+--     Function   whether the outer wires add up to a function of the operands
+pub mod Wires
+pub mod Function
