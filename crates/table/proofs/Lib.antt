@@ -5,3 +5,5 @@ pub mod Adding
 pub mod Shares
 pub mod Breaking
 pub mod Records
+pub mod Named
+pub mod Entries

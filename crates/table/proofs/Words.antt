@@ -3,7 +3,7 @@
 --     bit-xor, bit-or, bit-and         the bits of a sum without carry, of a union, of a section
 --     bit-shift, bit-low               the bits of a word shifted down, of its lowest digits
 --     bit-zero, bit-high               0 has no bit, and a number below 2 ^ d none from d on
---     bits-ext                         numbers with the same bits are equal
+--     bits-ext, no-bit                 numbers with the same bits are equal; one with none is 0
 --     zero-test, none-from             the tests that a word is 0, that it has no bit from s on
 --     ones-count                       the ones of a word are the bits that are set
 --     or-fold                          a word united with itself shifted
@@ -126,7 +126,7 @@ bit-low n (suc s) k h = sym (bit-parts n (suc s) k h)
 
 -- ---- words that are 0
 
-no-bit : (d w : ℕ) → w < 2 ^ d → ((k : ℕ) → k < d → bit w k ≡ false) → w ≡ 0
+pub no-bit : (d w : ℕ) → w < 2 ^ d → ((k : ℕ) → k < d → bit w k ≡ false) → w ≡ 0
 no-bit d w h f = bits-ext d w 0 h (lt-of-lt-of-le (zero-lt-suc 0) (pow-mono {i = 0} {j = d} zero-le)) (λ k l. f k l ∙ sym (bit-zero k))
 
 pub none-from : (d w s : ℕ) → w < 2 ^ d → eqb (w / 2 ^ s) 0 ≡ not (some (λ k. bit w k && leb s k) (upTo d))

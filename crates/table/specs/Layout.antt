@@ -6,8 +6,10 @@
 --     wireCount, wires    how many wires a table has, and the wires in their order
 --     inside              every wire of a set is one of the table's
 --     termsOf             the terms that the code's sum of records stands for
-use Prim.Native.Nat.{ℕ, _+_, _*_, _/_}
-use mathlib.Core.Bool.{Bool}
+--     FirstShares         terms cut to the first shares of each operand
+use Prim.Native.Nat.{ℕ, _+_, _*_, _/_, _<_}
+use mathlib.Core.Path.{_≡_}
+use mathlib.Core.Bool.{Bool, _&&_}
 use mathlib.Core.List.{List, map}
 use lib.Dec.{eqb, ltb}
 use lib.ListN.{length, take, drop}
@@ -48,3 +50,10 @@ inside table set = every (λ wire. ltb wire (wireCount table)) set
 
 abbrev pub termsOf : Sum → Terms
 termsOf s = decodeTerms (s .products) (s .masks) (s .«shares_a») (s .«shares_b»)
+
+-- u is t for the first n shares of each operand, and has no bit for the others
+pub record FirstShares (n : ℕ) (t u : Terms) : Type 0 where
+  pub products : (i j : ℕ) → i < 8 → j < 8 → u .product i j ≡ (t .product i j && (ltb i n && ltb j n))
+  pub ofA : (i : ℕ) → i < 8 → u .shareA i ≡ (t .shareA i && ltb i n)
+  pub ofB : (j : ℕ) → j < 8 → u .shareB j ≡ (t .shareB j && ltb j n)
+  pub masks : (k : ℕ) → k < 64 → u .mask k ≡ t .mask k

@@ -5,6 +5,7 @@ ghost use mathlib.Core.Path.{_≡_};
 ghost use Prim.Native.Nat.{_≤_, _<_};
 ghost use Rattle.table.specs.Answers.{refusalNumber, tableTold, tableCheck, functionTold, functionCheck, FunctionMeans};
 
+pub mod functions;
 pub mod layout;
 pub mod sums;
 pub mod tests;
@@ -73,4 +74,29 @@ pub fn table_check(table: &[u8], shares: usize, masks: usize) -> TableAnswer
         return TableAnswer::Refused(Refusal::RecordOutOfRange);
     }
     TableAnswer::Accepted
+}
+
+// Whether the outer wires add up, for every share and mask value, to 1, the product of the two operands; 2, their sum; 3, operand a.
+pub fn function_check(table: &[u8], shares: usize, masks: usize, function: usize) -> FunctionAnswer
+    ensures { λ r. ⌜ functionTold r ≡ functionCheck (now (table .entry)) shares masks function ⌝ }
+    ensures { λ r. ⌜ FunctionMeans (functionTold r) (now (table .entry)) shares masks function ⌝ }
+{
+    let tested = table_check(table, shares, masks);
+    match tested {
+        TableAnswer::Refused(why) => FunctionAnswer::Refused(why),
+        TableAnswer::Accepted => {
+            if function < 1 {
+                return FunctionAnswer::Refused(Refusal::NoSuchFunction);
+            }
+            if 3 < function {
+                return FunctionAnswer::Refused(Refusal::NoSuchFunction);
+            }
+            let outers = sums::sum_of_outers(table);
+            let rest = sums::added(outers, functions::function_record(shares, function));
+            if functions::is_blank(rest) {
+                return FunctionAnswer::Yes;
+            }
+            FunctionAnswer::No
+        }
+    }
 }

@@ -5,7 +5,8 @@
 --     depends-exactly     terms depend on share i of a exactly when two inputs that differ only there give them different values
 --     depends-exactly-b   the same for share j of b
 --     zero-blank          terms whose value is 0 everywhere have no bit set
---     blank-zero          terms with no bit set have the value 0 everywhere
+--     NoBits              no bit is set; blank-bits, bits-blank: that is what the test says
+--     bits-zero, blank-zero     then the value is 0 everywhere
 use Prim.Native.Nat.{ℕ, _<_}
 use mathlib.Core.Path.{_≡_, refl, sym, _∙_, ap, ap₂}
 use mathlib.Core.Logic.{_↔_}
@@ -167,25 +168,33 @@ module _ (n m : ℕ) (t : Terms) where
           let one : ℕ → Bool = λ k. eqb k (w .0) in
           sym (w .2) ∙ sym (parity-one m (w .0) (t .mask) (w .1)) ∙ sym (masks-alone one) ∙ zero (record { ofA = λ i. false; ofB = λ j. false }) one
 
-  pub blank-zero : blank n m t ≡ true → (x : Input) (r : ℕ → Bool) → value n m x r t ≡ false
+-- no bit is set for the n shares and m masks
+pub record NoBits (n m : ℕ) (t : Terms) : Type 0 where
+  pub noProduct : (i j : ℕ) → i < n → j < n → t .product i j ≡ false
+  pub noShareA : (i : ℕ) → i < n → t .shareA i ≡ false
+  pub noShareB : (j : ℕ) → j < n → t .shareB j ≡ false
+  pub noMask : (k : ℕ) → k < m → t .mask k ≡ false
+
+module _ (n m : ℕ) (t : Terms) where
+  pub blank-bits : blank n m t ≡ true → NoBits n m t
   unfolding masked
-  blank-zero e x r =
-      value-below n m x r t none (λ i j b c. products i j b c) (λ i b. single i b) (λ j b. single-b j b) (λ k b. mask k b) ∙ value-none n m x r
-    where
-      parts : (some (dependsA n t) (upTo n) || some (dependsB n t) (upTo n)) ≡ false
-      parts = or-none (some (dependsA n t) (upTo n) || some (dependsB n t) (upTo n)) (masked m t) (not-true (some (dependsA n t) (upTo n) || some (dependsB n t) (upTo n) || masked m t) e) .0
+  blank-bits e =
+      let shares = some (dependsA n t) (upTo n) || some (dependsB n t) (upTo n) in
+      let parts = or-none shares (masked m t) (not-true (shares || masked m t) e) in
+      let each = or-none (some (dependsA n t) (upTo n)) (some (dependsB n t) (upTo n)) (parts .0) in
+      let a : (i : ℕ) → i < n → dependsA n t i ≡ false = λ i b. never n i (dependsA n t) (each .0) b in
+      let b : (j : ℕ) → j < n → dependsB n t j ≡ false = λ j c. never n j (dependsB n t) (each .1) c in record {
+        noProduct = λ i j c d. never n j (t .product i) (or-none (some (t .product i) (upTo n)) (t .shareA i) (a i c) .0) d;
+        noShareA = λ i c. or-none (some (t .product i) (upTo n)) (t .shareA i) (a i c) .1;
+        noShareB = λ j c. or-none (some (λ i. t .product i j) (upTo n)) (t .shareB j) (b j c) .1;
+        noMask = λ k c. never m k (t .mask) (parts .1) c;
+      }
 
-      share : (i : ℕ) → i < n → dependsA n t i ≡ false
-      share i b = never n i (dependsA n t) (or-none (some (dependsA n t) (upTo n)) (some (dependsB n t) (upTo n)) parts .0) b
+  pub bits-zero : NoBits n m t → (x : Input) (r : ℕ → Bool) → value n m x r t ≡ false
+  bits-zero h x r = value-below n m x r t none (h .noProduct) (h .noShareA) (h .noShareB) (h .noMask) ∙ value-none n m x r
 
-      products : (i j : ℕ) → i < n → j < n → t .product i j ≡ false
-      products i j b c = never n j (t .product i) (or-none (some (t .product i) (upTo n)) (t .shareA i) (share i b) .0) c
+  pub bits-blank : NoBits n m t → blank n m t ≡ true
+  bits-blank h = zero-blank n m t (bits-zero h)
 
-      single : (i : ℕ) → i < n → t .shareA i ≡ false
-      single i b = or-none (some (t .product i) (upTo n)) (t .shareA i) (share i b) .1
-
-      single-b : (j : ℕ) → j < n → t .shareB j ≡ false
-      single-b j b = or-none (some (λ i. t .product i j) (upTo n)) (t .shareB j) (never n j (dependsB n t) (or-none (some (dependsA n t) (upTo n)) (some (dependsB n t) (upTo n)) parts .1) b) .1
-
-      mask : (k : ℕ) → k < m → t .mask k ≡ false
-      mask k b = never m k (t .mask) (or-none (some (dependsA n t) (upTo n) || some (dependsB n t) (upTo n)) (masked m t) (not-true (some (dependsA n t) (upTo n) || some (dependsB n t) (upTo n) || masked m t) e) .1) b
+  pub blank-zero : blank n m t ≡ true → (x : Input) (r : ℕ → Bool) → value n m x r t ≡ false
+  blank-zero e = bits-zero (blank-bits e)

@@ -3,10 +3,10 @@
 --     within                          where the test finds none beyond
 --     within-total                    so it is for a sum
 --     countA-narrow, masked-narrow    the counts over all bits of a record are those over the gadget's own
---     breaks-narrow                   and so is the breaking test
+--     breaks-narrow, blank-narrow     and so are the breaking test and the test that no bit is set
 --     empty-breaks-nothing            the empty set breaks nothing
 use Prim.Native.Nat.{ℕ, zero, suc, _+_, _≤_, _<_}
-use native.Mathlib.Decide.{decLe}
+use native.Mathlib.Decide.{decLt}
 use native.Mathlib.Omega.{arith}
 use mathlib.Core.Path.{_≡_, refl, sym, _∙_, ap, ap₂}
 use mathlib.Core.Logic.{_⊎_, inl, inr}
@@ -16,11 +16,13 @@ use native.Mathlib.Nat.{zero-add, add-zero, le-trans}
 use borrow.Author.Tests.{le-leb, le-ltb}
 use lib.Dec.{ltb, leb}
 use Rattle.basics.specs.Folds.{fold, some, count, oneIf, upTo}
-use Rattle.basics.proofs.Tests.{or-left, or-right, or-none, false-xor}
+use Rattle.basics.proofs.Tests.{or-left, or-right, or-none, bool-ext, false-xor}
 use Rattle.basics.proofs.Folds.{fold-below, fold-narrow, fold-unit, never}
 use Rattle.wires.specs.declared.Notion.{Notion}
 use Rattle.wires.specs.declared.Notion.the-variants.{Ni, Sni}
 use Rattle.wires.specs.Wires.{Terms, Wire, none, plus, total, swap, dependsA, countA, countB, masked, allowed, breaks, beyond}
+use Rattle.wires.specs.Function.{blank}
+use Rattle.wires.proofs.Dependence.{NoBits, blank-bits, bits-blank}
 
 pub record Within (N M n m : ℕ) (t : Terms) : Type 0 where
   pub noProduct : (i j : ℕ) → i < N → j < N → (n ≤ i) ⊎ (n ≤ j) → t .product i j ≡ false
@@ -116,6 +118,32 @@ module _ (N M n m : ℕ) (small : n ≤ N) (few : m ≤ M) where
       let w = within-total N M n m s h in
       ap₂ (λ (a b : Bool). not a && b) (masked-narrow (total s) w)
       (ap₂ (λ (x y : ℕ). ltb (allowed notion s) x || ltb (allowed notion s) y) (countA-narrow (total s) w) (countB-narrow (total s) w))
+
+  -- no bit among those that a record can hold, or none of the gadget's own
+  pub blank-narrow : (t : Terms) → Within N M n m t → blank N M t ≡ blank n m t
+  blank-narrow t w =
+      bool-ext (blank N M t) (blank n m t)
+      (λ e. let b = blank-bits N M t e in
+      bits-blank n m t (record {
+        noProduct = λ i j c d. b .noProduct i j (le-trans c small) (le-trans d small);
+        noShareA = λ i c. b .noShareA i (le-trans c small);
+        noShareB = λ j c. b .noShareB j (le-trans c small);
+        noMask = λ k c. b .noMask k (le-trans c few);
+      }))
+      (λ e. let b = blank-bits n m t e in
+      bits-blank N M t (record {
+        noProduct = λ i j c d. either (t .product i j) n i (λ x. either (t .product i j) n j (λ y. b .noProduct i j x y) (λ y. w .noProduct i j c d (inr y))) (λ x. w .noProduct i j c d (inl x));
+        noShareA = λ i c. either (t .shareA i) n i (λ x. b .noShareA i x) (λ x. w .noA i c x);
+        noShareB = λ j c. either (t .shareB j) n j (λ x. b .noShareB j x) (λ x. w .noB j c x);
+        noMask = λ k c. either (t .mask k) m k (λ x. b .noMask k x) (λ x. w .noMask k c x);
+      }))
+    where
+      either : (b : Bool) (n i : ℕ) → (i < n → b ≡ false) → (n ≤ i → b ≡ false) → b ≡ false
+      either b n i f g = go (decLt i n)
+        where
+          go : Dec (i < n) → b ≡ false
+          go (yes h) = f h
+          go (no h) = g (omega arith)
 
 pub empty-breaks-nothing : (notion : Notion) (n m : ℕ) → breaks notion n m [] ≡ false
 unfolding breaks countA

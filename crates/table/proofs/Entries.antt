@@ -1,0 +1,221 @@
+-- What the tests of a table give to the operations that come after them, and what the function check tells.
+--     Accepted                     a table, a number of shares and one of masks that pass the tests
+--     accepted, tested-answer      where the tests pass, the operation's own answer stands
+--     tested-refusal               where they do not, their refusal stands
+--     wire-within, set-within, table-within     an accepted record has no bit beyond shares and masks
+--     function-decided             what the code compares decides the function
+--     function-means               what yes and no say of values follows from the equation
+--     refused-before, function-low, function-high, answered     the entry's answers
+use Prim.Native.Nat.{ℕ, _%_, _≤_, _<_}
+use native.Mathlib.Nat.{le-trans, lt-of-lt-of-le}
+use native.Mathlib.Omega.{arith}
+use mathlib.Core.Path.{_≡_, refl, sym, _∙_, ap, ap₂}
+use mathlib.Core.Logic.{_⊎_, inl, inr}
+use mathlib.Core.Bool.{Bool, true, false, cond, not, _&&_, _||_, xor, true≢false, false≢true, and-false, and-true}
+use mathlib.Core.List.{List, [], _∷_, map}
+use borrow.Author.Tests.{le-leb, lt-leb, ltb-false, le-ltb, lt-ltb, ltb-true, eqb-true, not-true, not-false}
+use lib.Dec.{ltb, leb, eqb}
+use lib.ListN.{length}
+use Rattle.basics.specs.Folds.{some, every, keep, oneIf, upTo}
+use Rattle.basics.specs.Told.{Told, values, refusal}
+use Rattle.basics.proofs.Tests.{and-left, and-right, or-none, bool-ext}
+use Rattle.basics.proofs.Folds.{never, every-below}
+use Rattle.wires.specs.Wires.{Terms, Wire, plus, total, beyond}
+use Rattle.wires.specs.Function.{functionTerms, outers, AddUpTo, blank, computes}
+use Rattle.wires.proofs.Dependence.{NoBits, blank-bits, bits-blank}
+use Rattle.wires.proofs.Function.{computes-exactly}
+use Rattle.wires.proofs.Narrow.{Within, AllWithin, within, within-plus, within-total, blank-narrow}
+use Rattle.table.specs.Layout.{decode, field, recordAt, wireAt, wireCount, wires, inside, FirstShares}
+use Rattle.table.specs.Answers.{wrongShares, wrongLength, wrongRecord, tested, tableCheck, functionCheck, FunctionMeans}
+
+pub record Accepted (table : List ℕ) (shares masks : ℕ) : Type 0 where
+  pub goodShares : wrongShares shares masks ≡ false
+  pub goodLength : wrongLength table ≡ false
+  pub goodRecords : some (λ w. wrongRecord shares masks (recordAt table w)) (upTo (wireCount table)) ≡ false
+
+-- an answer is no refusal
+values-refusal : (l : List ℕ) (k : ℕ) → values l ≡ refusal k → ⊥
+values-refusal l k e = let z : _≡_ {A = ℕ} 0 1 = cc in omega (arith, z)
+
+-- ---- the tests, then the answer
+
+module _ (table : List ℕ) (shares masks : ℕ) where
+  pub accepted : values [] ≡ tableCheck table shares masks → Accepted table shares masks
+  accepted e = go (wrongShares shares masks) (wrongLength table) (some (λ w. wrongRecord shares masks (recordAt table w)) (upTo (wireCount table))) refl refl refl e
+    where
+      go : (a b c : Bool) → wrongShares shares masks ≡ a → wrongLength table ≡ b → some (λ w. wrongRecord shares masks (recordAt table w)) (upTo (wireCount table)) ≡ c
+          → values [] ≡ cond a (refusal 11) (cond b (refusal 12) (cond c (refusal 13) (values []))) → Accepted table shares masks
+      go true b c p q r e = absurd (values-refusal [] 11 e)
+      go false true c p q r e = absurd (values-refusal [] 12 e)
+      go false false true p q r e = absurd (values-refusal [] 13 e)
+      go false false false p q r e = record { goodShares = p; goodLength = q; goodRecords = r }
+
+  pub tested-answer : {A : Type 0} (refuse : ℕ → A) (answer : A) → Accepted table shares masks → tested refuse table shares masks answer ≡ answer
+  tested-answer refuse answer h = simp (h .goodShares, h .goodLength, h .goodRecords)
+
+  pub tested-refusal : {A : Type 0} (refuse : ℕ → A) (answer : A) (k : ℕ) → refusal k ≡ tableCheck table shares masks → tested refuse table shares masks answer ≡ refuse k
+  tested-refusal refuse answer k e = go (wrongShares shares masks) (wrongLength table) (some (λ w. wrongRecord shares masks (recordAt table w)) (upTo (wireCount table))) e
+    where
+      same : (i : ℕ) → refusal k ≡ refusal i → refuse i ≡ refuse k
+      same i e = let f : i ≡ k = cc in ap refuse f
+
+      go : (a b c : Bool) → refusal k ≡ cond a (refusal 11) (cond b (refusal 12) (cond c (refusal 13) (values [])))
+          → cond a (refuse 11) (cond b (refuse 12) (cond c (refuse 13) answer)) ≡ refuse k
+      go true b c e = same 11 e
+      go false true c e = same 12 e
+      go false false true e = same 13 e
+      go false false false e = absurd (values-refusal [] k (sym e))
+
+-- ---- no bit beyond
+
+module _ (table : List ℕ) (shares masks : ℕ) (h : Accepted table shares masks) where
+  parts : (ltb shares 2 ≡ false) × (ltb 8 shares ≡ false) × (ltb 64 masks ≡ false)
+  parts =
+      let a = or-none (ltb shares 2 || ltb 8 shares) (ltb 64 masks) (h .goodShares) in
+      let b = or-none (ltb shares 2) (ltb 8 shares) (a .0) in
+      (b .0, b .1, a .1)
+
+  pub shares-low : 2 ≤ shares
+  shares-low = ltb-false shares 2 (parts .0)
+
+  pub shares-high : shares ≤ 8
+  shares-high = ltb-false 8 shares (parts .1)
+
+  pub masks-high : masks ≤ 64
+  masks-high = ltb-false 64 masks (parts .2)
+
+  pub wire-within : (w : ℕ) → w < wireCount table → Within 8 64 shares masks (wireAt table w .terms)
+  wire-within w l =
+      let sound = never (wireCount table) w (λ w. wrongRecord shares masks (recordAt table w)) (h .goodRecords) l in
+      within 8 64 shares masks (wireAt table w .terms) (or-none (beyond 8 64 shares masks (wireAt table w .terms)) (ltb 1 (field 18 1 (recordAt table w))) sound .0)
+
+  all-within : (set : List ℕ) → every (λ w. ltb w (wireCount table)) set ≡ true → AllWithin 8 64 shares masks (map (wireAt table) set)
+  all-within [] e = tt
+  all-within (w ∷ set) e =
+      let rest = every (λ w. ltb w (wireCount table)) set in
+      (wire-within w (ltb-true w (wireCount table) (and-left (ltb w (wireCount table)) rest e)), all-within set (and-right (ltb w (wireCount table)) rest e))
+
+  pub set-within : (set : List ℕ) → inside table set ≡ true → AllWithin 8 64 shares masks (map (wireAt table) set)
+  unfolding inside
+  set-within set e = all-within set e
+
+  pub table-within : AllWithin 8 64 shares masks (wires table)
+  table-within = all-within (upTo (wireCount table)) (every-below (wireCount table) (λ w. ltb w (wireCount table)) (λ w l. lt-ltb w (wireCount table) l))
+
+keep-within : (N M n m : ℕ) (f : Wire → Bool) (s : List Wire) → AllWithin N M n m s → AllWithin N M n m (keep f s)
+keep-within N M n m f [] h = tt
+keep-within N M n m f (w ∷ s) h = go (f w) (keep-within N M n m f s (h .1))
+  where
+    go : (b : Bool) → AllWithin N M n m (keep f s) → AllWithin N M n m (cond b (w ∷ keep f s) (keep f s))
+    go true k = (h .0, k)
+    go false k = k
+
+-- ---- the function check
+
+module _ (n m : ℕ) (t u : Terms) (p : (i j : ℕ) → i < n → j < n → t .product i j ≡ u .product i j) (a : (i : ℕ) → i < n → t .shareA i ≡ u .shareA i)
+    (b : (j : ℕ) → j < n → t .shareB j ≡ u .shareB j) (k : (k : ℕ) → k < m → t .mask k ≡ u .mask k) where
+  carried : blank n m t ≡ true → blank n m u ≡ true
+  carried e =
+      let h = blank-bits n m t e in
+      bits-blank n m u (record {
+        noProduct = λ i j c d. sym (p i j c d) ∙ h .noProduct i j c d;
+        noShareA = λ i c. sym (a i c) ∙ h .noShareA i c;
+        noShareB = λ j c. sym (b j c) ∙ h .noShareB j c;
+        noMask = λ i c. sym (k i c) ∙ h .noMask i c;
+      })
+
+blank-same : (n m : ℕ) (t u : Terms) → ((i j : ℕ) → i < n → j < n → t .product i j ≡ u .product i j) → ((i : ℕ) → i < n → t .shareA i ≡ u .shareA i)
+    → ((j : ℕ) → j < n → t .shareB j ≡ u .shareB j) → ((k : ℕ) → k < m → t .mask k ≡ u .mask k) → blank n m t ≡ blank n m u
+blank-same n m t u p a b k =
+    bool-ext (blank n m t) (blank n m u) (carried n m t u p a b k)
+    (carried n m u t (λ i j c d. sym (p i j c d)) (λ i c. sym (a i c)) (λ j c. sym (b j c)) (λ i c. sym (k i c)))
+
+module _ (n m : ℕ) (small : n ≤ 8) (few : m ≤ 64) (t u : Terms) (first : FirstShares n t u) (clear : (k : ℕ) → t .mask k ≡ false) where
+  cut-within : Within 8 64 n m u
+  cut-within = record {
+    noProduct = λ i j c d h. first .products i j c d ∙ ap (λ (z : Bool). t .product i j && z) (late i j h) ∙ and-false (t .product i j);
+    noA = λ i c h. first .ofA i c ∙ ap (λ (z : Bool). t .shareA i && z) (le-ltb i n h) ∙ and-false (t .shareA i);
+    noB = λ j c h. first .ofB j c ∙ ap (λ (z : Bool). t .shareB j && z) (le-ltb j n h) ∙ and-false (t .shareB j);
+    noMask = λ k c h. first .masks k c ∙ clear k;
+  }
+    where
+      late : (i j : ℕ) → (n ≤ i) ⊎ (n ≤ j) → (ltb i n && ltb j n) ≡ false
+      late i j (inl h) = ap (λ (z : Bool). z && ltb j n) (le-ltb i n h)
+      late i j (inr h) = ap (λ (z : Bool). ltb i n && z) (le-ltb j n h) ∙ and-false (ltb i n)
+
+  cut-same : (s : Terms) → blank n m (plus s u) ≡ blank n m (plus s t)
+  cut-same s =
+      blank-same n m (plus s u) (plus s t)
+      (λ i j c d. ap (xor (s .product i j)) (first .products i j (le-trans c small) (le-trans d small)
+      ∙ ap₂ (λ (y z : Bool). t .product i j && (y && z)) (lt-ltb i n c) (lt-ltb j n d) ∙ and-true (t .product i j)))
+      (λ i c. ap (xor (s .shareA i)) (first .ofA i (le-trans c small) ∙ ap (λ (z : Bool). t .shareA i && z) (lt-ltb i n c) ∙ and-true (t .shareA i)))
+      (λ j c. ap (xor (s .shareB j)) (first .ofB j (le-trans c small) ∙ ap (λ (z : Bool). t .shareB j && z) (lt-ltb j n c) ∙ and-true (t .shareB j)))
+      (λ k c. ap (xor (s .mask k)) (first .masks k (le-trans c few)))
+
+pub function-decided : (table : List ℕ) (shares masks function : ℕ) (u : Terms) → Accepted table shares masks → FirstShares shares (functionTerms function) u
+    → blank 8 64 (plus (total (outers (wires table))) u) ≡ computes function shares masks (wires table)
+unfolding computes
+function-decided table shares masks function u h first =
+    let sum = total (outers (wires table)) in
+    let small = shares-high table shares masks h in
+    let few = masks-high table shares masks h in
+    let sum-within = within-total 8 64 shares masks (outers (wires table)) (keep-within 8 64 shares masks (λ w. w .outer) (wires table) (table-within table shares masks h)) in
+    blank-narrow 8 64 shares masks small few (plus sum u)
+    (within-plus 8 64 shares masks sum u sum-within (cut-within shares masks small few (functionTerms function) u first (λ k. refl)))
+    ∙ cut-same shares masks small few (functionTerms function) u first (λ k. refl) sum
+
+-- what a yes or a no says of the test
+decided : (a b c d x k : Bool) → cond a (refusal 11) (cond b (refusal 12) (cond c (refusal 13) (cond d (refusal 20) (values (oneIf x ∷ []))))) ≡ values (oneIf k ∷ []) → x ≡ k
+decided true b c d x k e = absurd (values-refusal (oneIf k ∷ []) 11 (sym e))
+decided false true c d x k e = absurd (values-refusal (oneIf k ∷ []) 12 (sym e))
+decided false false true d x k e = absurd (values-refusal (oneIf k ∷ []) 13 (sym e))
+decided false false false true x k e = absurd (values-refusal (oneIf k ∷ []) 20 (sym e))
+decided false false false false true true e = refl
+decided false false false false false false e = refl
+decided false false false false true false e = let z : _≡_ {A = ℕ} 1 0 = cc in absurd (omega (arith, z))
+decided false false false false false true e = let z : _≡_ {A = ℕ} 0 1 = cc in absurd (omega (arith, z))
+
+pub function-means : (told : Told) (table : List ℕ) (shares masks function : ℕ) → told ≡ functionCheck table shares masks function → FunctionMeans told table shares masks function
+function-means told table shares masks function e =
+    let test = computes function shares masks (wires table) in
+    let told-is : (k : Bool) → told ≡ values (oneIf k ∷ []) → test ≡ k = λ k f.
+    decided (wrongShares shares masks) (wrongLength table) (some (λ w. wrongRecord shares masks (recordAt table w)) (upTo (wireCount table)))
+    (not (leb 1 function && leb function 3)) test k (sym e ∙ f) in
+    let exactly = computes-exactly function shares masks (wires table) in
+    record { yes-means = λ f. exactly .0 (told-is true f); no-means = λ f all. true≢false (sym (exactly .1 all) ∙ told-is false f) }
+
+-- ---- the entry's answers, each with the whole of its promise
+
+abbrev pub Promise : Told → List ℕ → ℕ → ℕ → ℕ → Type 0
+Promise told table shares masks function = (told ≡ functionCheck table shares masks function) × FunctionMeans told table shares masks function
+
+module _ (table : List ℕ) (shares masks function : ℕ) where
+  promised : (told : Told) → told ≡ functionCheck table shares masks function → Promise told table shares masks function
+  promised told e = (e, function-means told table shares masks function e)
+
+  pub refused-before : (k : ℕ) → refusal k ≡ tableCheck table shares masks → Promise (refusal k) table shares masks function
+  refused-before k e =
+      promised (refusal k)
+      (sym (tested-refusal table shares masks refusal
+      (cond (not (leb 1 function && leb function 3)) (refusal 20) (values (oneIf (computes function shares masks (wires table)) ∷ []))) k e))
+
+  module _ (ok : values [] ≡ tableCheck table shares masks) where
+    own : functionCheck table shares masks function
+        ≡ cond (not (leb 1 function && leb function 3)) (refusal 20) (values (oneIf (computes function shares masks (wires table)) ∷ []))
+    own =
+        tested-answer table shares masks refusal
+        (cond (not (leb 1 function && leb function 3)) (refusal 20) (values (oneIf (computes function shares masks (wires table)) ∷ [])))
+        (accepted table shares masks ok)
+
+    pub function-low : function < 1 → Promise (refusal 20) table shares masks function
+    function-low h = promised (refusal 20) (sym (own ∙ simp (lt-leb 1 function h)))
+
+    pub function-high : 1 ≤ function → 3 < function → Promise (refusal 20) table shares masks function
+    function-high l h = promised (refusal 20) (sym (own ∙ simp (le-leb 1 function l, lt-leb function 3 h)))
+
+    pub answered : (x y : Bool) (s t u : Terms) → 1 ≤ function → function ≤ 3 → s ≡ total (outers (wires table)) → FirstShares shares (functionTerms function) t → u ≡ plus s t
+        → x ≡ blank 8 64 u → x ≡ y → Promise (values (oneIf y ∷ [])) table shares masks function
+    answered x y s t u l h es ft eu ex e =
+        let c : y ≡ computes function shares masks (wires table) =
+        sym e ∙ ex ∙ ap (blank 8 64) (eu ∙ ap (λ (v : Terms). plus v t) es) ∙ function-decided table shares masks function t (accepted table shares masks ok) ft in
+        promised (values (oneIf y ∷ [])) (sym (own ∙ simp (le-leb 1 function l, le-leb function 3 h, c)))
