@@ -15,7 +15,8 @@ use borrow.Author.Tests.{eqb-true, eq-eqb}
 use lib.Dec.{eqb}
 use lib.ListN.{length, getD, take, drop, take-append-drop, List·getD-append, replicate}
 use Rattle.counts.specs.Counts.{binom, Counts}
-use Rattle.counts.proofs.Lists.{and-left, and-right, getD-second}
+use Rattle.basics.proofs.Tests.{and-left, and-right}
+use Rattle.counts.proofs.Lists.{getD-second}
 use Rattle.counts.proofs.Binomial.{binom-zero, binom-none, binom-suc}
 
 abbrev follows : ℕ → List ℕ → List ℕ → Bool

@@ -12,11 +12,12 @@ use mathlib.Core.List.{List, [], _∷_, _++_, append-nil}
 use borrow.Author.Tests.{le-ltb, le-leb, lt-leb, ne-eqb}
 use lib.Dec.{eqb}
 use lib.ListN.{length, drop, replicate, length-replicate, drop-of-length-le}
+use Rattle.basics.specs.Told.{Lent, values, refusal}
 use Rattle.counts.specs.Counts.{binom}
-use Rattle.counts.proofs.Lists.{and-right}
+use Rattle.basics.proofs.Tests.{and-right}
 use Rattle.sets.specs.Order.{revolving, setAt, rankOf, rising, below, isSet}
 use Rattle.sets.specs.Division.{start, HasRank, ExactlyOne}
-use Rattle.sets.specs.Answers.{Lent, values, refusal, setCount, setFromRank, rankFromSet, jobRanks}
+use Rattle.sets.specs.Answers.{setCount, setFromRank, rankFromSet, jobRanks}
 use Rattle.sets.specs.Visits.{JobTells, SetTells, RankTells}
 use Rattle.sets.proofs.Rising.{isSet-parts, parts-isSet}
 use Rattle.sets.proofs.Revolving.{revolving-length, set-at-is-set, set-of-rank, rank-unique}

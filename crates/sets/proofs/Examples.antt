@@ -9,7 +9,8 @@ use Rattle.counts.proofs.Rows.{binom-row}
 use Rattle.counts.proofs.Binomial.{binom-wider}
 use Rattle.sets.specs.Order.{revolving, setAt}
 use Rattle.sets.specs.Division.{start}
-use Rattle.sets.specs.Answers.{values, refusal, turnedDown, setCount, setFromRank, rankFromSet, jobRanks}
+use Rattle.basics.specs.Told.{values, refusal, turnedDown}
+use Rattle.sets.specs.Answers.{setCount, setFromRank, rankFromSet, jobRanks}
 use Rattle.sets.specs.Visits.{SetTells}
 use Rattle.sets.proofs.Revolving.{set-at-wider}
 use Rattle.sets.proofs.Entries.{at-told}

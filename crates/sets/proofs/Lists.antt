@@ -1,6 +1,5 @@
 -- Facts on lists that know nothing of wires or of an order.
 --     getD-map, getD-reverse                   an element of a mapped list, of a reversed list
---     bool-ext                                 two tests that pass together are equal
 --     same-refl, same-true, same-snoc          what the test of two lists says
 --     ends-or-empty                            a list is empty or has a last element
 --     times-append, times-reverse, times-snoc, times-empty     how often a list stands in a list of lists
@@ -15,8 +14,10 @@ use mathlib.Core.List.{List, [], _∷_, _++_, map, reverse, reverse-cons}
 use borrow.Author.Tests.{eq-eqb, eqb-true}
 use lib.Dec.{eqb}
 use lib.ListN.{length, getD, length-reverse, List·getD-append}
-use Rattle.counts.proofs.Lists.{and-left, and-right, getD-second}
-use Rattle.sets.specs.Order.{same, timesIn, placeOf, oneIf}
+use Rattle.basics.specs.Folds.{oneIf}
+use Rattle.basics.proofs.Tests.{and-left, and-right}
+use Rattle.counts.proofs.Lists.{getD-second}
+use Rattle.sets.specs.Order.{same, timesIn, placeOf}
 
 module _ {A B : Type 0} where
   pub getD-map : (f : A → B) (l : List A) (i : ℕ) (d : A) (e : B) → i < length l → getD (map f l) i e ≡ f (getD l i d)
@@ -35,11 +36,6 @@ module _ {A : Type 0} where
       let p : i < length (reverse l) = omega (arith, length-reverse l) in
       let q : i + suc j ≡ length l = omega arith in
       ap (λ (m : List A). getD m i d) (reverse-cons x l) ∙ List·getD-append (reverse l) (x ∷ []) d i p ∙ getD-reverse l i j d q
-
-pub bool-ext : (a b : Bool) → (a ≡ true → b ≡ true) → (b ≡ true → a ≡ true) → a ≡ b
-bool-ext true b f g = sym (f refl)
-bool-ext false true f g = g refl
-bool-ext false false f g = refl
 
 pub same-refl : (s : List ℕ) → same s s ≡ true
 same-refl [] = refl

@@ -17,10 +17,11 @@ use mathlib.Core.List.{List, [], _∷_, _++_, map, reverse}
 use borrow.Author.Tests.{lt-ltb, le-ltb, eq-eqb, ne-eqb}
 use lib.Dec.{ltb, eqb, eqb·zero-suc, eqb·suc-zero, leb·suc-zero}
 use lib.ListN.{length, getD, length-append, length-reverse, length-map, List·getD-append}
+use Rattle.basics.specs.Folds.{oneIf}
 use Rattle.counts.specs.Counts.{binom}
 use Rattle.counts.proofs.Lists.{getD-second}
 use Rattle.counts.proofs.Binomial.{binom-zero, binom-none, binom-suc, binom-wider}
-use Rattle.sets.specs.Order.{revolving, setAt, rising, below, isSet, rankOf, placeOf, timesIn, oneIf}
+use Rattle.sets.specs.Order.{revolving, setAt, rising, below, isSet, rankOf, placeOf, timesIn}
 use Rattle.sets.proofs.Lists.{getD-map, getD-reverse, ends-or-empty, times-append, times-reverse, times-snoc, times-empty, times-at, place-in, place-at}
 use Rattle.sets.proofs.Rising.{isSet-snoc, isSet-parts}
 

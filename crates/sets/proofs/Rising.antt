@@ -19,8 +19,7 @@ use lib.Dec.{ltb, leb, eqb, eqb·suc-suc}
 use lib.ListN.{length, getD, take, drop, length-append, drop-of-length-le}
 use lib.Seq.{drop-cons}
 use Rattle.sets.specs.Order.{rising, below, isSet}
-use Rattle.counts.proofs.Lists.{and-left, and-right}
-use Rattle.sets.proofs.Lists.{bool-ext}
+use Rattle.basics.proofs.Tests.{and-left, and-right, bool-ext}
 
 abbrev pub chosen : ℕ → ℕ → List ℕ → Bool
 chosen lo n [] = true

@@ -1,7 +1,5 @@
 -- Each answer of `sets` in the scope's own numbers, and what each entry answers (scope, "Numbering and dividing" and
 -- "What each operation turns down").
---     Told                the values of an answer, or the number of a refusal
---     Lent                what is told, with what the lent buffer then holds
 --     refusalNumber       the scope's number of each refusal
 --     countTold, setTold, rankTold, jobTold            what each answer of the code tells
 --     maxWires, maxSize, maxJobs                       the limits
@@ -11,6 +9,7 @@ use mathlib.Core.Bool.{cond, _&&_, _||_, not}
 use mathlib.Core.List.{List, [], _∷_, _++_}
 use lib.Dec.{ltb, leb, eqb}
 use lib.ListN.{length, drop}
+use Rattle.basics.specs.Told.{Told, Lent, values, refusal, turnedDown}
 use Rattle.counts.specs.Counts.{binom}
 use Rattle.sets.specs.Order.{setAt, rankOf, rising, below}
 use Rattle.sets.specs.Division.{start}
@@ -20,14 +19,6 @@ use Rattle.sets.specs.declared.CountAnswer.{CountAnswer}
 use Rattle.sets.specs.declared.SetAnswer.{SetAnswer}
 use Rattle.sets.specs.declared.RankAnswer.{RankAnswer}
 use Rattle.sets.specs.declared.JobAnswer.{JobAnswer}
-
-pub data Told : Type 0 where
-  values : List ℕ → Told
-  refusal : ℕ → Told
-
-pub record Lent : Type 0 where
-  pub told : Told
-  pub held : List ℕ
 
 abbrev pub refusalNumber : Refusal → ℕ
 refusalNumber TooManyWires = 12
@@ -68,10 +59,6 @@ setCount wires size =
     cond (ltb maxWires wires) (refusal 12)
     (cond (ltb maxSize size) (refusal 17)
     (values (binom wires size ∷ [])))
-
--- a refusal leaves the buffer as it was
-abbrev pub turnedDown : ℕ → List ℕ → Lent
-turnedDown number buffer = record { told = refusal number; held = buffer }
 
 -- the set stands at the buffer's start, and what lies past it is as it was
 abbrev pub setFromRank : ℕ → ℕ → ℕ → List ℕ → Lent

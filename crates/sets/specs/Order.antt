@@ -8,7 +8,6 @@
 --     placeOf s l     the first place at which s stands in l
 --     rankOf n s      the rank of s among the sets of its size out of n wires
 --     timesIn s l     at how many places of l the list s stands
---     oneIf b         1 where the test passes, else 0
 use Prim.Native.Nat.{ℕ, zero, suc, _+_}
 use mathlib.Core.Bool.{Bool, true, false, cond, _&&_}
 use mathlib.Core.List.{List, [], _∷_, _++_, map, reverse}
@@ -53,7 +52,3 @@ rankOf n s = placeOf s (revolving n (length s))
 abbrev pub timesIn : List ℕ → List (List ℕ) → ℕ
 timesIn s [] = 0
 timesIn s (t ∷ l) = cond (same s t) 1 0 + timesIn s l
-
--- once or not at all
-abbrev pub oneIf : Bool → ℕ
-oneIf b = cond b 1 0

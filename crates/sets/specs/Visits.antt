@@ -6,7 +6,8 @@ use Prim.Native.Nat.{ℕ, _≤_, _<_}
 use mathlib.Core.Path.{_≡_}
 use mathlib.Core.List.{List, [], _∷_, _++_}
 use lib.ListN.{length, drop}
-use Rattle.sets.specs.Answers.{values, jobRanks, setFromRank, rankFromSet}
+use Rattle.basics.specs.Told.{values}
+use Rattle.sets.specs.Answers.{jobRanks, setFromRank, rankFromSet}
 
 pub record JobTells (n k jobs i r : ℕ) : Type 0 where
   pub from : ℕ

@@ -9,15 +9,15 @@
 --     whole-set, whole-count        all wires of the set
 --     all-pay              under NI every wire pays
 --     outers-taken, outers-left     the sum of the outer wires with one wire more of the table, an outer or an inner one
-use Prim.Native.Nat.{ℕ, zero, suc, _+_, _*_, _/_, _≤_, _<_}
+use Prim.Native.Nat.{ℕ, zero, suc, _+_, _*_, _≤_, _<_}
 use native.Mathlib.Nat.{zero-add, add-zero, add-assoc}
 use native.Mathlib.Omega.{arith}
 use mathlib.Core.Path.{_≡_, refl, sym, _∙_, ap, ap₂}
-use mathlib.Core.Bool.{Bool, true, false, cond, not, xor}
+use mathlib.Core.Bool.{Bool, true, false, cond, not}
 use mathlib.Core.List.{List, [], _∷_, _++_, map, map-append}
 use lib.Bits.{bitXor}
 use borrow.Author.Tests.{ltb-true}
-use lib.Dec.{eqb, ltb}
+use lib.Dec.{ltb}
 use lib.ListN.{length, take, drop, getD}
 use lib.Seq.{take-all}
 use Rattle.basics.specs.Folds.{oneIf, upTo}
@@ -26,7 +26,7 @@ use Rattle.wires.specs.declared.Notion.the-variants.{Ni, Sni}
 use Rattle.wires.specs.Wires.{Terms, Wire, none, plus, total, allowed}
 use Rattle.wires.specs.Function.{outers}
 use Rattle.wires.proofs.Value.{terms-ext, plus-none, none-plus, plus-assoc}
-use Rattle.table.specs.Words.{bit, number}
+use Rattle.table.specs.Words.{number}
 use Rattle.table.specs.Layout.{decodeTerms, field, recordAt, wireAt, wireCount, inside}
 use Rattle.table.proofs.Words.{bit-zero, bit-xor}
 use Rattle.table.proofs.Fields.{field-at, byte-at, record-inside}

@@ -2,15 +2,13 @@
 --     words-masked                              a mask is left where the word of masks is not 0
 --     still-masked, more-of-a, then-of-b        the three answers
 use Prim.Native.Nat.{ℕ, _≤_, _<_, _^_}
-use mathlib.Core.Path.{_≡_, refl, sym, _∙_, ap, ap₂}
+use mathlib.Core.Path.{_≡_, sym, _∙_, ap, ap₂}
 use mathlib.Core.Bool.{Bool, true, false, not, _&&_, _||_}
 use mathlib.Core.List.{List}
-use borrow.Author.Tests.{eq-eqb, ne-eqb, lt-ltb, le-ltb, not-true, not-false}
+use borrow.Author.Tests.{eq-eqb, ne-eqb, lt-ltb, le-ltb}
 use lib.Dec.{ltb, eqb}
-use Rattle.basics.specs.Folds.{some, upTo}
 use Rattle.wires.specs.declared.Notion.{Notion}
 use Rattle.wires.specs.Wires.{Wire, total, countA, countB, masked, allowed, breaks}
-use Rattle.table.specs.Words.{bit}
 use Rattle.table.specs.Layout.{decodeTerms}
 use Rattle.table.proofs.Words.{zero-test}
 

@@ -6,26 +6,25 @@
 --     function-decided             what the code compares decides the function
 --     function-means               what yes and no say of values follows from the equation
 --     refused-before, function-low, function-high, answered     the entry's answers
-use Prim.Native.Nat.{ℕ, _%_, _≤_, _<_}
-use native.Mathlib.Nat.{le-trans, lt-of-lt-of-le}
+use Prim.Native.Nat.{ℕ, _≤_, _<_}
+use native.Mathlib.Nat.{le-trans}
 use native.Mathlib.Omega.{arith}
 use mathlib.Core.Path.{_≡_, refl, sym, _∙_, ap, ap₂}
 use mathlib.Core.Logic.{_⊎_, inl, inr}
-use mathlib.Core.Bool.{Bool, true, false, cond, not, _&&_, _||_, xor, true≢false, false≢true, and-false, and-true}
+use mathlib.Core.Bool.{Bool, true, false, cond, not, _&&_, _||_, xor, true≢false, and-false, and-true}
 use mathlib.Core.List.{List, [], _∷_, map}
-use borrow.Author.Tests.{le-leb, lt-leb, ltb-false, le-ltb, lt-ltb, ltb-true, eqb-true, not-true, not-false}
-use lib.Dec.{ltb, leb, eqb}
-use lib.ListN.{length}
+use borrow.Author.Tests.{le-leb, lt-leb, ltb-false, le-ltb, lt-ltb, ltb-true}
+use lib.Dec.{ltb, leb}
 use Rattle.basics.specs.Folds.{some, every, keep, oneIf, upTo}
 use Rattle.basics.specs.Told.{Told, values, refusal}
 use Rattle.basics.proofs.Tests.{and-left, and-right, or-none, bool-ext}
 use Rattle.basics.proofs.Folds.{never, every-below}
 use Rattle.wires.specs.Wires.{Terms, Wire, plus, total, beyond}
-use Rattle.wires.specs.Function.{functionTerms, outers, AddUpTo, blank, computes}
-use Rattle.wires.proofs.Dependence.{NoBits, blank-bits, bits-blank}
+use Rattle.wires.specs.Function.{functionTerms, outers, blank, computes}
+use Rattle.wires.proofs.Dependence.{blank-bits, bits-blank}
 use Rattle.wires.proofs.Function.{computes-exactly}
 use Rattle.wires.proofs.Narrow.{Within, AllWithin, within, within-plus, within-total, blank-narrow}
-use Rattle.table.specs.Layout.{decode, field, recordAt, wireAt, wireCount, wires, inside, FirstShares}
+use Rattle.table.specs.Layout.{field, recordAt, wireAt, wireCount, wires, inside, FirstShares}
 use Rattle.table.specs.Answers.{wrongShares, wrongLength, wrongRecord, tested, tableCheck, functionCheck, FunctionMeans}
 
 pub record Accepted (table : List ℕ) (shares masks : ℕ) : Type 0 where

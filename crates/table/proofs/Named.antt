@@ -4,8 +4,8 @@
 --     product-record, sum-record, copy-record           the records that the code gives for the three functions
 --     words-blank                       the test of four words
 --     mask-left, product-left, a-left, then-b           its answers
-use Prim.Native.Nat.{ℕ, suc, _+_, _*_, _/_, _%_, _^_, _≤_, _<_, suc-le-suc}
-use native.Mathlib.Nat.{mod-lt, zero-lt-suc, div-add-mod', div-lt-iff-lt-mul}
+use Prim.Native.Nat.{ℕ, _+_, _*_, _/_, _%_, _^_, _≤_, _<_, suc-le-suc}
+use native.Mathlib.Nat.{mod-lt, zero-lt-suc}
 use native.Mathlib.Omega.{arith}
 use mathlib.Core.Path.{_≡_, refl, sym, _∙_, ap, ap₂}
 use mathlib.Core.Bool.{Bool, true, false, not, _&&_, xor}
@@ -16,7 +16,6 @@ use lib.ListN.{getD}
 use Rattle.basics.specs.Folds.{every, upTo}
 use Rattle.basics.proofs.Tests.{and-left, and-right, and-both, bool-ext, xor-same}
 use Rattle.basics.proofs.Folds.{every-at}
-use Rattle.wires.specs.Wires.{Terms, none}
 use Rattle.wires.specs.Function.{functionTerms, blank}
 use Rattle.wires.proofs.Dependence.{NoBits, blank-bits, bits-blank}
 use Rattle.table.specs.Words.{bit}

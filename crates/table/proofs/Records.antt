@@ -2,7 +2,7 @@
 --     limit-past         a limit past the word's end leaves no bit beyond
 --     beyond-words       the bits beyond, found in the words of the shares on which the record depends and in its masks
 --     a-beyond, b-beyond, mask-beyond, then-the-flag     what the code's four tests say of a record
-use Prim.Native.Nat.{ℕ, zero, suc, _+_, _*_, _≤_, _<_}
+use Prim.Native.Nat.{ℕ, _+_, _*_, _≤_, _<_}
 use native.Mathlib.Nat.{lt-of-lt-of-le}
 use native.Mathlib.Omega.{arith}
 use mathlib.Core.Path.{_≡_, refl, sym, _∙_, ap, ap₂}
@@ -11,9 +11,8 @@ use mathlib.Core.List.{List}
 use borrow.Author.Tests.{lt-leb, le-ltb, lt-ltb, leb-true, leb-false, not-true, not-false}
 use lib.Dec.{leb, ltb}
 use lib.ListN.{getD}
-use Rattle.basics.specs.Folds.{fold, some, upTo}
-use Rattle.basics.proofs.Tests.{bool-ext}
-use Rattle.basics.proofs.Folds.{fold-cong, fold-hom, fold-unit, fold-both, fold-exchange, fold-below, fold-narrow, fold-append, up-to-last, some-at}
+use Rattle.basics.specs.Folds.{some, upTo}
+use Rattle.basics.proofs.Folds.{fold-cong, fold-hom, fold-unit, fold-both, fold-exchange, fold-below, fold-narrow}
 use Rattle.wires.specs.Wires.{Terms, swap, dependsA, dependsB, beyond}
 use Rattle.table.specs.Words.{bit}
 use Rattle.table.specs.Layout.{field, decodeTerms, recordAt, wireAt, wireCount}

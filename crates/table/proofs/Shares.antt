@@ -12,9 +12,9 @@ use borrow.Author.Tests.{not-true}
 use lib.Bits.{bitAnd, bitOr}
 use lib.Count.{ones}
 use lib.Dec.{eqb}
-use Rattle.basics.specs.Folds.{fold, some, every, count, oneIf, upTo}
+use Rattle.basics.specs.Folds.{some, every, oneIf, upTo}
 use Rattle.basics.proofs.Tests.{xor-same, and-cond}
-use Rattle.basics.proofs.Folds.{fold-cong, fold-first, fold-below, fold-pick, fold-split, every-at}
+use Rattle.basics.proofs.Folds.{fold-cong, fold-below, fold-pick, fold-split, every-at}
 use Rattle.wires.specs.Wires.{Terms, dependsA, countA}
 use Rattle.table.specs.Words.{bit}
 use Rattle.table.proofs.Words.{bit-or, bit-and, bit-low, or-fold, ones-count}

@@ -13,13 +13,13 @@ use native.Mathlib.Omega.{arith}
 use native.Mathlib.Decide.{decLt}
 use mathlib.Core.Path.{_≡_, refl, sym, _∙_, ap, ap₂, subst}
 use mathlib.Core.Bool.{Bool, true, false, not, _&&_, _||_, xor, true≢false, false≢true, and-true}
-use borrow.Author.Tests.{eq-eqb, eqb-true, ne-eqb, le-leb, leb-true}
+use borrow.Author.Tests.{eq-eqb, eqb-true, le-leb, leb-true}
 use lib.Arith.{lt-one}
 use lib.Bits.{bitAnd, bitOr, bitXor, and-shr, or-shr, xor-shr, and-mod, or-mod, xor-mod}
 use lib.Count.{ones, ones-step, ones-ones}
 use lib.Dec.{eqb, leb}
 use lib.Pow.{shr-shr, shr-lt, shr-le, pow-mono, field, mod-mod-pow}
-use Rattle.basics.specs.Folds.{fold, some, count, oneIf, upTo}
+use Rattle.basics.specs.Folds.{some, count, oneIf, upTo}
 use Rattle.basics.proofs.Tests.{bool-ext, and-left, and-right, and-both}
 use Rattle.basics.proofs.Folds.{fold-first, fold-cong, some-at, some-where}
 use Rattle.table.specs.Words.{bit}

@@ -1,6 +1,6 @@
 // The functions of the function check as records, and the test that no bit is left of a sum (scope, "Breaking sets", last paragraph).
 ghost use mathlib.Core.Path.{_≡_};
-ghost use Prim.Native.Nat.{_≤_, _<_};
+ghost use Prim.Native.Nat.{_≤_};
 ghost use Rattle.wires.specs.Function.{functionTerms, blank};
 ghost use Rattle.table.specs.Layout.{termsOf, FirstShares};
 use super::sums::Sum;

@@ -1,7 +1,7 @@
 // How a wire stands in a table: a record of 24 bytes, numbers little-endian (scope, "Wires").
 ghost use mathlib.Core.Path.{_≡_};
 ghost use Prim.Native.Nat.{_≤_, _<_, _+_, _^_};
-ghost use lib.ListN.{length, take, drop};
+ghost use lib.ListN.{take, drop};
 ghost use Rattle.table.specs.Words.{number};
 
 pub const RECORD_BYTES: usize = 24;

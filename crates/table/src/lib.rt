@@ -2,7 +2,7 @@
 // "What each operation turns down"). Tables come from the reader of texts or from a buyer's own tools; nothing here knows the reader.
 // Every argument may be anything its type holds: what is out of range is refused, in the scope's order.
 ghost use mathlib.Core.Path.{_≡_};
-ghost use Prim.Native.Nat.{_≤_, _<_};
+ghost use Prim.Native.Nat.{_<_};
 ghost use Rattle.table.specs.Answers.{refusalNumber, tableTold, tableCheck, functionTold, functionCheck, FunctionMeans};
 
 pub mod functions;

@@ -1,7 +1,7 @@
 // The test of a table's records, and the comparison with a function's record.
 ghost use mathlib.Core.Path.{_≡_};
 ghost use mathlib.Core.Bool.{not, _&&_};
-ghost use Prim.Native.Nat.{ℕ, _≤_, _<_};
+ghost use Prim.Native.Nat.{_<_};
 ghost use lib.Dec.{leb};
 ghost use Rattle.basics.specs.Folds.{some, upTo};
 ghost use Rattle.table.specs.Words.{bit};

@@ -12,10 +12,10 @@ use mathlib.Core.Path.{_≡_, refl, sym, _∙_, ap, ap₂}
 use mathlib.Core.Logic.{_↔_}
 use mathlib.Core.Bool.{Bool, true, false, cond, not, _&&_, _||_, xor, true≢false, false≢true, and-false, or-false}
 use mathlib.Core.List.{List}
-use borrow.Author.Tests.{not-true, eq-eqb, eqb-true}
+use borrow.Author.Tests.{not-true, eqb-true}
 use lib.Dec.{eqb}
-use Rattle.basics.specs.Folds.{fold, parity, some, upTo}
-use Rattle.basics.proofs.Tests.{or-left, or-right, or-none, xor-false, false-xor, xor-comm, xor-assoc, xor-self, xor-two, xor-and, and-xor, and-cond}
+use Rattle.basics.specs.Folds.{parity, some, upTo}
+use Rattle.basics.proofs.Tests.{or-none, xor-false, false-xor, xor-two, xor-and, and-xor, and-cond}
 use Rattle.basics.proofs.Folds.{fold-cong, fold-unit, fold-pick, some-where, never}
 use Rattle.wires.specs.Wires.{Terms, Input, value, none, swap, swapInput, flipA, flipB, dependsA, dependsB, masked}
 use Rattle.wires.specs.Function.{blank}

@@ -9,11 +9,11 @@ use mathlib.Core.List.{List}
 use native.Mathlib.Omega.{arith}
 use borrow.Author.Tests.{eqb-true}
 use lib.Dec.{eqb}
-use Rattle.basics.specs.Folds.{fold, parity, upTo}
+use Rattle.basics.specs.Folds.{parity, upTo}
 use Rattle.basics.proofs.Tests.{xor-false, false-xor, xor-self, xor-same, and-xor}
 use Rattle.basics.proofs.Folds.{fold-cong, fold-unit, fold-hom}
-use Rattle.wires.specs.Wires.{Terms, Wire, Input, value, plus, total}
-use Rattle.wires.specs.Function.{operand, functionOf, functionTerms, outers, AddUpTo, blank, computes}
+use Rattle.wires.specs.Wires.{Wire, Input, value, plus, total}
+use Rattle.wires.specs.Function.{operand, functionOf, functionTerms, outers, AddUpTo, computes}
 use Rattle.wires.proofs.Value.{value-plus, value-total}
 use Rattle.wires.proofs.Dependence.{zero-blank, blank-zero}
 

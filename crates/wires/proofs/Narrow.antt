@@ -5,7 +5,7 @@
 --     countA-narrow, masked-narrow    the counts over all bits of a record are those over the gadget's own
 --     breaks-narrow, blank-narrow     and so are the breaking test and the test that no bit is set
 --     empty-breaks-nothing            the empty set breaks nothing
-use Prim.Native.Nat.{ℕ, zero, suc, _+_, _≤_, _<_}
+use Prim.Native.Nat.{ℕ, _+_, _≤_, _<_}
 use native.Mathlib.Decide.{decLt}
 use native.Mathlib.Omega.{arith}
 use mathlib.Core.Path.{_≡_, refl, sym, _∙_, ap, ap₂}
@@ -13,16 +13,15 @@ use mathlib.Core.Logic.{_⊎_, inl, inr}
 use mathlib.Core.Bool.{Bool, true, false, not, _&&_, _||_, xor, true≢false, or-false}
 use mathlib.Core.List.{List, [], _∷_}
 use native.Mathlib.Nat.{zero-add, add-zero, le-trans}
-use borrow.Author.Tests.{le-leb, le-ltb}
+use borrow.Author.Tests.{le-leb}
 use lib.Dec.{ltb, leb}
-use Rattle.basics.specs.Folds.{fold, some, count, oneIf, upTo}
+use Rattle.basics.specs.Folds.{some, oneIf, upTo}
 use Rattle.basics.proofs.Tests.{or-left, or-right, or-none, bool-ext, false-xor}
 use Rattle.basics.proofs.Folds.{fold-below, fold-narrow, fold-unit, never}
 use Rattle.wires.specs.declared.Notion.{Notion}
-use Rattle.wires.specs.declared.Notion.the-variants.{Ni, Sni}
 use Rattle.wires.specs.Wires.{Terms, Wire, none, plus, total, swap, dependsA, countA, countB, masked, allowed, breaks, beyond}
 use Rattle.wires.specs.Function.{blank}
-use Rattle.wires.proofs.Dependence.{NoBits, blank-bits, bits-blank}
+use Rattle.wires.proofs.Dependence.{blank-bits, bits-blank}
 
 pub record Within (N M n m : ℕ) (t : Terms) : Type 0 where
   pub noProduct : (i j : ℕ) → i < N → j < N → (n ≤ i) ⊎ (n ≤ j) → t .product i j ≡ false

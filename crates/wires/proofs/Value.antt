@@ -8,9 +8,9 @@
 --     value-agree                    inputs that agree on the shares on which terms depend give the same value
 use Prim.Native.Nat.{ℕ, _<_}
 use mathlib.Core.Path.{_≡_, refl, sym, _∙_, ap, ap₂}
-use mathlib.Core.Bool.{Bool, true, false, _&&_, _||_, xor, and-comm}
+use mathlib.Core.Bool.{Bool, true, false, _&&_, xor, and-comm}
 use mathlib.Core.List.{List}
-use Rattle.basics.specs.Folds.{fold, parity, some, upTo}
+use Rattle.basics.specs.Folds.{parity, some, upTo}
 use Rattle.basics.proofs.Tests.{or-left, or-right, xor-false, false-xor, xor-comm, xor-assoc, xor-two, and-xor}
 use Rattle.basics.proofs.Folds.{fold-cong, fold-hom, fold-unit, fold-both, fold-exchange, fold-below, some-at}
 use Rattle.wires.specs.Wires.{Terms, Wire, Input, value, none, plus, total, swap, swapInput, dependsA, dependsB}

@@ -8,7 +8,7 @@
 --     computes        the outer wires' terms and the function's leave no bit when added: a test that computes
 use Prim.Native.Nat.{ℕ}
 use mathlib.Core.Path.{_≡_}
-use mathlib.Core.Bool.{Bool, true, false, cond, _&&_, _||_, xor, not}
+use mathlib.Core.Bool.{Bool, false, cond, _&&_, _||_, xor, not}
 use mathlib.Core.List.{List}
 use lib.Dec.{eqb}
 use Rattle.basics.specs.Folds.{parity, some, keep, upTo}

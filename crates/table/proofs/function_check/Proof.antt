@@ -5,13 +5,6 @@ use Rattle.table.proofs.Entries.{refused-before, function-low, function
 use borrow.Author.Needs.{needs}
 use Rattle.table.proofs.function_check.Statement.{statement}
 use Rattle.table.proofs.function_check.Tie as tie
-use Rattle.table.proofs.function_check.Reads as reads
-use Rattle.table.proofs.function_check.Lts as lts
-use Rattle.table.proofs.functions.function_record.Reads as function-record-reads
-use Rattle.table.proofs.functions.is_blank.Reads as is-blank-reads
-use Rattle.table.proofs.sums.added.Reads as added-reads
-use Rattle.table.proofs.sums.sum_of_outers.Reads as sum-of-outers-reads
-use Rattle.table.proofs.table_check.Reads as table-check-reads
 
 table-check-requires : tie.Need-table-check-requires
 table-check-requires c κs = search needs

@@ -10,9 +10,6 @@ use Rattle.table.specs.Answers.{wrongRecord}
 use borrow.Author.Needs.{needs}
 use Rattle.table.proofs.table_check.Statement.{statement}
 use Rattle.table.proofs.table_check.Tie as tie
-use Rattle.table.proofs.table_check.Reads as reads
-use Rattle.table.proofs.table_check.Lts as lts
-use Rattle.table.proofs.tests.records_fit.Reads as records-fit-reads
 
 returns : tie.Need-returns
 returns c = let a = c .before .before .args in simp (lt-ltb (a .shares) 2 (omega arith))

@@ -2,8 +2,6 @@ use Rattle.table.proofs.Named.{product-record, sum-record, copy-record}
 use borrow.Author.Needs.{needs}
 use Rattle.table.proofs.functions.function_record.Statement.{statement}
 use Rattle.table.proofs.functions.function_record.Tie as tie
-use Rattle.table.proofs.functions.function_record.Reads as reads
-use Rattle.table.proofs.functions.function_record.Lts as lts
 
 mul-t6 : tie.Need-mul-t6
 mul-t6 c = search needs

@@ -1,8 +1,6 @@
 use Rattle.table.proofs.Named.{mask-left, product-left, a-left, then-b}
 use Rattle.table.proofs.functions.is_blank.Statement.{statement}
 use Rattle.table.proofs.functions.is_blank.Tie as tie
-use Rattle.table.proofs.functions.is_blank.Reads as reads
-use Rattle.table.proofs.functions.is_blank.Lts as lts
 
 returns : tie.Need-returns
 returns c = mask-left _ _ _ _ (c .before .struct-known .given .0 .fits) (c .before .struct-known .given .1 .0 .fits) (c .before .struct-known .given .1 .1 .0 .fits) (c .before .struct-known .given .1 .1 .1 .0 .fits) (c .if1 .taken)

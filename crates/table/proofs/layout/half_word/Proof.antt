@@ -1,11 +1,7 @@
-use native.Mathlib.Omega.{arith}
-use Rattle.table.proofs.Fields.{four-bytes, eight-bytes}
+use Rattle.table.proofs.Fields.{four-bytes}
 use borrow.Author.Needs.{needs}
 use Rattle.table.proofs.layout.half_word.Statement.{statement}
 use Rattle.table.proofs.layout.half_word.Tie as tie
-use Rattle.table.proofs.layout.half_word.Reads as reads
-use Rattle.table.proofs.layout.half_word.Lts as lts
-use Rattle.table.proofs.layout.wide.Reads as wide-reads
 
 shared-slice-read-wide : tie.Need-shared-slice-read-wide
 shared-slice-read-wide c = search needs

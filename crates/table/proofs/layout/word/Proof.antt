@@ -1,11 +1,7 @@
-use native.Mathlib.Omega.{arith}
-use Rattle.table.proofs.Fields.{four-bytes, eight-bytes}
+use Rattle.table.proofs.Fields.{eight-bytes}
 use borrow.Author.Needs.{needs}
 use Rattle.table.proofs.layout.word.Statement.{statement}
 use Rattle.table.proofs.layout.word.Tie as tie
-use Rattle.table.proofs.layout.word.Reads as reads
-use Rattle.table.proofs.layout.word.Lts as lts
-use Rattle.table.proofs.layout.half_word.Reads as half-word-reads
 
 half-word-requires : tie.Need-half-word-requires
 half-word-requires c κs = search needs

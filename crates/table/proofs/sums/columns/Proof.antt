@@ -3,9 +3,6 @@ use Rattle.table.proofs.Shares.{columns-bits}
 use borrow.Author.Needs.{needs}
 use Rattle.table.proofs.sums.columns.Statement.{statement}
 use Rattle.table.proofs.sums.columns.Tie as tie
-use Rattle.table.proofs.sums.columns.Reads as reads
-use Rattle.table.proofs.sums.columns.Lts as lts
-use Rattle.table.proofs.sums.gather.Reads as gather-reads
 
 gather-requires : tie.Need-gather-requires
 gather-requires c κs = search needs

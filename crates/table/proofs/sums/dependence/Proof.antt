@@ -6,9 +6,6 @@ use Rattle.table.proofs.Shares.{seen-ones}
 use borrow.Author.Needs.{needs}
 use Rattle.table.proofs.sums.dependence.Statement.{statement}
 use Rattle.table.proofs.sums.dependence.Tie as tie
-use Rattle.table.proofs.sums.dependence.Reads as reads
-use Rattle.table.proofs.sums.dependence.Lts as lts
-use Rattle.table.proofs.sums.shares_seen.Reads as shares-seen-reads
 
 shares-seen-requires : tie.Need-shares-seen-requires
 shares-seen-requires c κs = search needs

@@ -2,8 +2,6 @@ use Rattle.table.proofs.Shares.{gather-bits}
 use borrow.Author.Needs.{needs}
 use Rattle.table.proofs.sums.gather.Statement.{statement}
 use Rattle.table.proofs.sums.gather.Tie as tie
-use Rattle.table.proofs.sums.gather.Reads as reads
-use Rattle.table.proofs.sums.gather.Lts as lts
 
 shr-two : tie.Need-shr-two
 shr-two c = search needs

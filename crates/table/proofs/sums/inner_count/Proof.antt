@@ -1,22 +1,17 @@
 use borrow.Author.Tests.{not-true, not-false}
-use mathlib.Core.Bool.{Bool, not}
-use Rattle.basics.specs.Folds.{oneIf}
 use Rattle.wires.specs.Wires.{allowed}
 use Rattle.wires.specs.declared.Notion.the-variants.{Sni}
 use Rattle.table.specs.Layout.{wireAt}
 use Rattle.table.proofs.Adding.{set-inside, inner-counted, inner-passed, whole-count}
 use native.Mathlib.Omega.{arith}
-use Prim.Native.Nat.{ℕ, suc, _+_, _-_, _≤_, zero-le}
-use mathlib.Core.Path.{_≡_, refl, sym, _∙_, ap}
+use Prim.Native.Nat.{_-_, _≤_, zero-le}
+use mathlib.Core.Path.{_≡_, refl, sym, _∙_}
 use mathlib.Core.Logic.{⊎-elim}
 use mathlib.Core.List.{map}
 use borrow.Author.Needs.{needs}
 use lib.ListN.{length, take}
 use Rattle.table.proofs.sums.inner_count.Statement.{statement}
 use Rattle.table.proofs.sums.inner_count.Tie as tie
-use Rattle.table.proofs.sums.inner_count.Reads as reads
-use Rattle.table.proofs.sums.inner_count.Lts as lts
-use Rattle.table.proofs.sums.is_outer.Reads as is-outer-reads
 
 abbrev Inv-loop : tie.InvT-loop
 Inv-loop table set count₀ i₀ count i = (i ≤ length set) × (count ≤ i) × (count ≡ allowed Sni (map (wireAt table) (take i set)))

@@ -5,8 +5,6 @@ use Rattle.table.proofs.Adding.{outer-byte}
 use borrow.Author.Needs.{needs}
 use Rattle.table.proofs.sums.is_outer.Statement.{statement}
 use Rattle.table.proofs.sums.is_outer.Tie as tie
-use Rattle.table.proofs.sums.is_outer.Reads as reads
-use Rattle.table.proofs.sums.is_outer.Lts as lts
 
 mul-result : tie.Need-mul-result
 mul-result c = search needs

@@ -1,9 +1,6 @@
-use mathlib.Core.Path.{refl}
-use Rattle.table.proofs.Adding.{words-added, words-zero, words-of-record}
+use Rattle.table.proofs.Adding.{words-zero}
 use Rattle.table.proofs.sums.nothing.Statement.{statement}
 use Rattle.table.proofs.sums.nothing.Tie as tie
-use Rattle.table.proofs.sums.nothing.Reads as reads
-use Rattle.table.proofs.sums.nothing.Lts as lts
 
 returns : tie.Need-returns
 returns c = words-zero

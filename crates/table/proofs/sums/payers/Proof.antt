@@ -6,9 +6,6 @@ use Rattle.table.proofs.Adding.{all-pay}
 use borrow.Author.Needs.{needs}
 use Rattle.table.proofs.sums.payers.Statement.{statement}
 use Rattle.table.proofs.sums.payers.Tie as tie
-use Rattle.table.proofs.sums.payers.Reads as reads
-use Rattle.table.proofs.sums.payers.Lts as lts
-use Rattle.table.proofs.sums.inner_count.Reads as inner-count-reads
 
 enum-told : tie.Need-enum-told
 enum-told c = search needs

@@ -3,9 +3,6 @@ use Rattle.table.proofs.Shares.{rows-bits}
 use borrow.Author.Needs.{needs}
 use Rattle.table.proofs.sums.rows.Statement.{statement}
 use Rattle.table.proofs.sums.rows.Tie as tie
-use Rattle.table.proofs.sums.rows.Reads as reads
-use Rattle.table.proofs.sums.rows.Lts as lts
-use Rattle.table.proofs.sums.gather.Reads as gather-reads
 
 gather-requires : tie.Need-gather-requires
 gather-requires c κs = search needs

@@ -2,11 +2,6 @@ use Rattle.table.proofs.Breaking.{still-masked, more-of-a, then-of-b}
 use borrow.Author.Needs.{needs}
 use Rattle.table.proofs.sums.set_breaks.Statement.{statement}
 use Rattle.table.proofs.sums.set_breaks.Tie as tie
-use Rattle.table.proofs.sums.set_breaks.Reads as reads
-use Rattle.table.proofs.sums.set_breaks.Lts as lts
-use Rattle.table.proofs.sums.dependence.Reads as dependence-reads
-use Rattle.table.proofs.sums.payers.Reads as payers-reads
-use Rattle.table.proofs.sums.sum_of_set.Reads as sum-of-set-reads
 
 sum-of-set-requires : tie.Need-sum-of-set-requires
 sum-of-set-requires c κs = search needs

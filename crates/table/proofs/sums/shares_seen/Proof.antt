@@ -6,11 +6,6 @@ use Rattle.table.proofs.Shares.{seen-bits}
 use borrow.Author.Needs.{needs}
 use Rattle.table.proofs.sums.shares_seen.Statement.{statement}
 use Rattle.table.proofs.sums.shares_seen.Tie as tie
-use Rattle.table.proofs.sums.shares_seen.Reads as reads
-use Rattle.table.proofs.sums.shares_seen.Lts as lts
-use Rattle.table.proofs.layout.wide.Reads as wide-reads
-use Rattle.table.proofs.sums.columns.Reads as columns-reads
-use Rattle.table.proofs.sums.rows.Reads as rows-reads
 
 rows-requires : tie.Need-rows-requires
 rows-requires c κs = search needs

@@ -1,23 +1,16 @@
 use Rattle.basics.specs.Folds.{upTo}
 use Rattle.wires.specs.Wires.{plus, total}
 use Rattle.wires.specs.Function.{outers}
-use Rattle.table.specs.Layout.{wireAt, wireCount, termsOf}
+use Rattle.table.specs.Layout.{wireAt, termsOf}
 use Rattle.table.proofs.Adding.{outers-taken, outers-left}
 use native.Mathlib.Omega.{arith}
-use Prim.Native.Nat.{ℕ, suc, _+_, _-_, _≤_, zero-le}
-use mathlib.Core.Path.{_≡_, refl, sym, _∙_, ap}
+use Prim.Native.Nat.{ℕ, _-_, _≤_, zero-le}
+use mathlib.Core.Path.{_≡_, sym, _∙_, ap}
 use mathlib.Core.Logic.{⊎-elim}
 use mathlib.Core.List.{map}
 use borrow.Author.Needs.{needs}
-use lib.ListN.{length, take}
 use Rattle.table.proofs.sums.sum_of_outers.Statement.{statement}
 use Rattle.table.proofs.sums.sum_of_outers.Tie as tie
-use Rattle.table.proofs.sums.sum_of_outers.Reads as reads
-use Rattle.table.proofs.sums.sum_of_outers.Lts as lts
-use Rattle.table.proofs.sums.added.Reads as added-reads
-use Rattle.table.proofs.sums.is_outer.Reads as is-outer-reads
-use Rattle.table.proofs.sums.nothing.Reads as nothing-reads
-use Rattle.table.proofs.sums.wire_record.Reads as wire-record-reads
 
 abbrev Inv-loop : tie.InvT-loop
 Inv-loop table count sum₀ wire₀ sum wire = (wire ≤ count) × (termsOf sum ≡ total (outers (map (wireAt table) (upTo wire))))

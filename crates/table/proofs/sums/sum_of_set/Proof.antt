@@ -9,11 +9,6 @@ use Rattle.table.specs.Layout.{wireAt, termsOf}
 use Rattle.table.proofs.Adding.{set-inside, total-more, whole-set}
 use Rattle.table.proofs.sums.sum_of_set.Statement.{statement}
 use Rattle.table.proofs.sums.sum_of_set.Tie as tie
-use Rattle.table.proofs.sums.sum_of_set.Reads as reads
-use Rattle.table.proofs.sums.sum_of_set.Lts as lts
-use Rattle.table.proofs.sums.added.Reads as added-reads
-use Rattle.table.proofs.sums.nothing.Reads as nothing-reads
-use Rattle.table.proofs.sums.wire_record.Reads as wire-record-reads
 
 abbrev Inv-loop : tie.InvT-loop
 Inv-loop table set sum₀ i₀ sum i = (i ≤ length set) × (termsOf sum ≡ total (map (wireAt table) (take i set)))

@@ -3,9 +3,6 @@ use Rattle.table.proofs.Adding.{words-of-record}
 use borrow.Author.Needs.{needs}
 use Rattle.table.proofs.sums.wire_record.Statement.{statement}
 use Rattle.table.proofs.sums.wire_record.Tie as tie
-use Rattle.table.proofs.sums.wire_record.Reads as reads
-use Rattle.table.proofs.sums.wire_record.Lts as lts
-use Rattle.table.proofs.layout.word.Reads as word-reads
 
 mul-at : tie.Need-mul-at
 mul-at c = search needs

@@ -3,8 +3,6 @@ use Rattle.table.proofs.Records.{limit-past}
 use borrow.Author.Needs.{needs}
 use Rattle.table.proofs.tests.ends_below.Statement.{statement}
 use Rattle.table.proofs.tests.ends_below.Tie as tie
-use Rattle.table.proofs.tests.ends_below.Reads as reads
-use Rattle.table.proofs.tests.ends_below.Lts as lts
 
 returns : tie.Need-returns
 returns c = limit-past _ _ (c .if1 .taken)

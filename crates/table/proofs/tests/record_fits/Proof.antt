@@ -3,11 +3,6 @@ use Rattle.table.proofs.Records.{a-beyond, b-beyond, mask-beyond, then-
 use borrow.Author.Needs.{needs}
 use Rattle.table.proofs.tests.record_fits.Statement.{statement}
 use Rattle.table.proofs.tests.record_fits.Tie as tie
-use Rattle.table.proofs.tests.record_fits.Reads as reads
-use Rattle.table.proofs.tests.record_fits.Lts as lts
-use Rattle.table.proofs.sums.shares_seen.Reads as shares-seen-reads
-use Rattle.table.proofs.sums.wire_record.Reads as wire-record-reads
-use Rattle.table.proofs.tests.ends_below.Reads as ends-below-reads
 
 wire-record-requires : tie.Need-wire-record-requires
 wire-record-requires c κs = search needs

@@ -10,9 +10,6 @@ use Rattle.table.specs.Layout.{recordAt}
 use Rattle.table.specs.Answers.{wrongRecord}
 use Rattle.table.proofs.tests.records_fit.Statement.{statement}
 use Rattle.table.proofs.tests.records_fit.Tie as tie
-use Rattle.table.proofs.tests.records_fit.Reads as reads
-use Rattle.table.proofs.tests.records_fit.Lts as lts
-use Rattle.table.proofs.tests.record_fits.Reads as record-fits-reads
 
 abbrev Inv-loop : tie.InvT-loop
 Inv-loop table shares masks count wire₀ wire = (wire ≤ count) × (some (λ w. wrongRecord shares masks (recordAt table w)) (upTo wire) ≡ false)
