@@ -46,7 +46,8 @@ module _ {B : Type 0} (op : B → B → B) (e : B) (unit : (x : B) → op e x �
   fold-append assoc f [] l = sym (unit (fold op e f l))
   fold-append assoc f (x ∷ k) l = ap (op (f x)) (fold-append assoc f k l) ∙ sym (assoc (f x) (fold op e f k) (fold op e f l))
 
-  pub fold-more : ((x : B) → op x e ≡ x) → ((x y z : B) → op (op x y) z ≡ op x (op y z)) → {A C : Type 0} (f : A → B) (g : C → A) (l : List C) (i : ℕ) (d : C)
+  pub fold-more : ((x : B) → op x e ≡ x) → ((x y z : B) → op (op x y) z ≡ op x (op y z))
+      → {A C : Type 0} (f : A → B) (g : C → A) (l : List C) (i : ℕ) (d : C)
       → i < length l → fold op e f (map g (take (i + 1) l)) ≡ op (fold op e f (map g (take i l))) (f (g (getD l i d)))
   fold-more unit-right assoc f g l i d h =
       let more : i + 1 ≡ suc i = omega arith in
@@ -78,7 +79,8 @@ module _ {B : Type 0} (op : B → B → B) (e : B) where
   unfolding upTo
   fold-below zero f g h = refl
   fold-below (suc n) f g h =
-      fold-first n f ∙ ap₂ op (h 0 (zero-lt-suc n)) (fold-below n (λ i. f (suc i)) (λ i. g (suc i)) (λ i k. h (suc i) (suc-le-suc k))) ∙ sym (fold-first n g)
+      fold-first n f ∙ ap₂ op (h 0 (zero-lt-suc n)) (fold-below n (λ i. f (suc i)) (λ i. g (suc i)) (λ i k. h (suc i) (suc-le-suc k)))
+      ∙ sym (fold-first n g)
 
   module _ (unit : (x : B) → op e x ≡ x) (unit-right : (x : B) → op x e ≡ x) where
     pub fold-pick : (n k : ℕ) (f : ℕ → B) → k < n → fold op e (λ i. cond (eqb i k) (f i) e) (upTo n) ≡ f k
@@ -86,12 +88,14 @@ module _ {B : Type 0} (op : B → B → B) (e : B) where
     fold-pick zero k f h = absurd (not-suc-le-zero h)
     fold-pick (suc n) zero f h =
         fold-first n (λ i. cond (eqb i 0) (f i) e)
-        ∙ ap (op (f 0)) (fold-unit op e unit (λ i. cond (eqb (suc i) 0) (f (suc i)) e) (upTo n) (λ i. ap (λ (b : Bool). cond b (f (suc i)) e) (eqb·suc-zero i)))
+        ∙ ap (op (f 0))
+        (fold-unit op e unit (λ i. cond (eqb (suc i) 0) (f (suc i)) e) (upTo n) (λ i. ap (λ (b : Bool). cond b (f (suc i)) e) (eqb·suc-zero i)))
         ∙ unit-right (f 0)
     fold-pick (suc n) (suc k) f h =
         fold-first n (λ i. cond (eqb i (suc k)) (f i) e)
         ∙ ap₂ op (ap (λ (b : Bool). cond b (f 0) e) (eqb·zero-suc k))
-        (fold-cong op e (λ i. cond (eqb (suc i) (suc k)) (f (suc i)) e) (λ i. cond (eqb i k) (f (suc i)) e) (upTo n) (λ i. ap (λ (b : Bool). cond b (f (suc i)) e) (eqb·suc-suc i k))
+        (fold-cong op e (λ i. cond (eqb (suc i) (suc k)) (f (suc i)) e) (λ i. cond (eqb i k) (f (suc i)) e) (upTo n)
+        (λ i. ap (λ (b : Bool). cond b (f (suc i)) e) (eqb·suc-suc i k))
         ∙ fold-pick n k (λ i. f (suc i)) (le-of-suc-le-suc h))
         ∙ unit (f (suc k))
 
@@ -103,7 +107,8 @@ module _ {B : Type 0} (op : B → B → B) (e : B) where
         go zero l = refl
         go (suc n) l = absurd (not-suc-le-zero l)
     fold-narrow zero (suc m) f l h =
-        fold-first m f ∙ ap₂ op (h 0 zero-le (zero-lt-suc m)) (fold-narrow zero m (λ i. f (suc i)) zero-le (λ i a b. h (suc i) zero-le (suc-le-suc b))) ∙ unit e
+        fold-first m f
+        ∙ ap₂ op (h 0 zero-le (zero-lt-suc m)) (fold-narrow zero m (λ i. f (suc i)) zero-le (λ i a b. h (suc i) zero-le (suc-le-suc b))) ∙ unit e
     fold-narrow (suc n) (suc m) f l h =
         fold-first m f
         ∙ ap (op (f 0)) (fold-narrow n m (λ i. f (suc i)) (le-of-suc-le-suc l) (λ i a b. h (suc i) (suc-le-suc a) (suc-le-suc b)))
@@ -130,7 +135,8 @@ module _ {A : Type 0} where
   keep-append f [] l = refl
   keep-append f (x ∷ k) l = go (f x) (keep-append f k l)
     where
-      go : (b : Bool) → keep f (k ++ l) ≡ keep f k ++ keep f l → cond b (x ∷ keep f (k ++ l)) (keep f (k ++ l)) ≡ cond b (x ∷ keep f k) (keep f k) ++ keep f l
+      go : (b : Bool) → keep f (k ++ l) ≡ keep f k ++ keep f l
+          → cond b (x ∷ keep f (k ++ l)) (keep f (k ++ l)) ≡ cond b (x ∷ keep f k) (keep f k) ++ keep f l
       go true e = ap {B = List A} (λ m. x ∷ m) e
       go false e = e
 
@@ -151,7 +157,8 @@ unfolding upTo
 some-where zero f p = absurd (false≢true p)
 some-where (suc n) f p = go (f 0) refl (some-where n (λ i. f (suc i)))
   where
-    go : (b : Bool) → f 0 ≡ b → (some (λ i. f (suc i)) (upTo n) ≡ true → (k : ℕ) × (k < n) × (f (suc k) ≡ true)) → (k : ℕ) × (k < suc n) × (f k ≡ true)
+    go : (b : Bool) → f 0 ≡ b → (some (λ i. f (suc i)) (upTo n) ≡ true → (k : ℕ) × (k < n) × (f (suc k) ≡ true))
+        → (k : ℕ) × (k < suc n) × (f k ≡ true)
     go true q ih = (0, zero-lt-suc n, q)
     go false q ih =
         let r = ih (ap (λ (b : Bool). b || some (λ i. f (suc i)) (upTo n)) (sym q) ∙ sym (fold-first _||_ false n f) ∙ p) in
@@ -176,7 +183,8 @@ pub every-below : (n : ℕ) (f : ℕ → Bool) → ((i : ℕ) → i < n → f i 
 unfolding upTo
 every-below zero f h = refl
 every-below (suc n) f h =
-    fold-first _&&_ true n f ∙ and-both (f 0) (every (λ i. f (suc i)) (upTo n)) (h 0 (zero-lt-suc n)) (every-below n (λ i. f (suc i)) (λ i k. h (suc i) (suc-le-suc k)))
+    fold-first _&&_ true n f
+    ∙ and-both (f 0) (every (λ i. f (suc i)) (upTo n)) (h 0 (zero-lt-suc n)) (every-below n (λ i. f (suc i)) (λ i k. h (suc i) (suc-le-suc k)))
 
 pub none-more : (n : ℕ) (f : ℕ → Bool) → some f (upTo n) ≡ false → f n ≡ false → some f (upTo (n + 1)) ≡ false
 none-more n f p q =

@@ -91,7 +91,8 @@ xor-same false false e = refl
 
 pub xor-two : (a b c d : Bool) → xor (xor a b) (xor c d) ≡ xor (xor a c) (xor b d)
 xor-two a b c d =
-    xor-assoc a b (xor c d) ∙ ap (xor a) (sym (xor-assoc b c d) ∙ ap (λ (z : Bool). xor z d) (xor-comm b c) ∙ xor-assoc c b d) ∙ sym (xor-assoc a c (xor b d))
+    xor-assoc a b (xor c d) ∙ ap (xor a) (sym (xor-assoc b c d) ∙ ap (λ (z : Bool). xor z d) (xor-comm b c) ∙ xor-assoc c b d)
+    ∙ sym (xor-assoc a c (xor b d))
 
 pub and-cond : (a b : Bool) → (a && b) ≡ cond b a false
 and-cond true true = refl

@@ -6,7 +6,7 @@
 --     set-inside           every wire of a set is one of the table's
 --     total-more           the sum with one wire more of a set
 --     inner-counted, inner-passed   the inner wires with one wire more of a set, an inner or an outer one
---     whole-set, whole-count        all wires of the set
+--     whole-set, whole-count, whole-table     all wires of the set, of the table
 --     all-pay              under NI every wire pays
 --     outers-taken, outers-left     the sum of the outer wires with one wire more of the table, an outer or an inner one
 use Prim.Native.Nat.{ℕ, zero, suc, _+_, _*_, _≤_, _<_}
@@ -23,11 +23,11 @@ use lib.Seq.{take-all}
 use Rattle.basics.specs.Folds.{oneIf, upTo}
 use Rattle.basics.proofs.Folds.{fold-append, fold-more, up-to-last, keep-append, every-place}
 use Rattle.wires.specs.declared.Notion.the-variants.{Ni, Sni}
-use Rattle.wires.specs.Wires.{Terms, Wire, none, plus, total, allowed}
+use Rattle.wires.specs.Wires.{Terms, Wire, none, plus, total, SumOfValues, allowed}
 use Rattle.wires.specs.Function.{outers}
-use Rattle.wires.proofs.Value.{terms-ext, plus-none, none-plus, plus-assoc}
+use Rattle.wires.proofs.Value.{terms-ext, plus-none, none-plus, plus-assoc, sum-of-values}
 use Rattle.table.specs.Words.{number}
-use Rattle.table.specs.Layout.{decodeTerms, field, recordAt, wireAt, wireCount, inside}
+use Rattle.table.specs.Layout.{decodeTerms, field, recordAt, wireAt, wireCount, wires, inside}
 use Rattle.table.proofs.Words.{bit-zero, bit-xor}
 use Rattle.table.proofs.Fields.{field-at, byte-at, record-inside}
 
@@ -46,11 +46,15 @@ pub words-of-record : (table : List ℕ) (wire p k a b : ℕ) → wire < wireCou
 words-of-record table wire p k a b h ep ek ea eb =
     let r = record-inside table wire h in
     let zero : 24 * wire ≡ 24 * wire + 0 = omega arith in
-    let f : p ≡ field 0 8 (recordAt table wire) = ep ∙ ap (λ (x : ℕ). number (take 8 (drop x table))) zero ∙ sym (field-at table wire 0 8 (omega arith)) in
+    let f : p ≡ field 0 8 (recordAt table wire) =
+    ep ∙ ap (λ (x : ℕ). number (take 8 (drop x table))) zero ∙ sym (field-at table wire 0 8 (omega arith)) in
     let g : k ≡ field 8 8 (recordAt table wire) = ek ∙ sym (field-at table wire 8 8 (omega arith)) in
-    let c : a ≡ field 16 1 (recordAt table wire) = ea ∙ sym (byte-at table (24 * wire + 16) (omega (arith, r))) ∙ sym (field-at table wire 16 1 (omega arith)) in
-    let d : b ≡ field 17 1 (recordAt table wire) = eb ∙ sym (byte-at table (24 * wire + 17) (omega (arith, r))) ∙ sym (field-at table wire 17 1 (omega arith)) in
-    ap₂ (λ (x y : ℕ). decodeTerms x y a b) f g ∙ ap₂ (λ (x y : ℕ). decodeTerms (field 0 8 (recordAt table wire)) (field 8 8 (recordAt table wire)) x y) c d
+    let c : a ≡ field 16 1 (recordAt table wire) =
+    ea ∙ sym (byte-at table (24 * wire + 16) (omega (arith, r))) ∙ sym (field-at table wire 16 1 (omega arith)) in
+    let d : b ≡ field 17 1 (recordAt table wire) =
+    eb ∙ sym (byte-at table (24 * wire + 17) (omega (arith, r))) ∙ sym (field-at table wire 17 1 (omega arith)) in
+    ap₂ (λ (x y : ℕ). decodeTerms x y a b) f g
+    ∙ ap₂ (λ (x y : ℕ). decodeTerms (field 0 8 (recordAt table wire)) (field 8 8 (recordAt table wire)) x y) c d
 
 pub outer-byte : (table : List ℕ) (wire : ℕ) → wire < wireCount table → getD table (24 * wire + 18) 0 ≡ field 18 1 (recordAt table wire)
 outer-byte table wire h =
@@ -74,11 +78,13 @@ inner-more table set i k h e =
     ap (λ (m : ℕ). m + oneIf (not (wireAt table (getD set i 0) .outer))) e
     ∙ sym (fold-more _+_ 0 zero-add add-zero add-assoc (λ w. oneIf (not (w .outer))) (wireAt table) set i 0 h)
 
-pub inner-counted : (table set : List ℕ) (i k : ℕ) → i < length set → wireAt table (getD set i 0) .outer ≡ false → k ≡ allowed Sni (map (wireAt table) (take i set))
+pub inner-counted : (table set : List ℕ) (i k : ℕ) → i < length set → wireAt table (getD set i 0) .outer ≡ false
+    → k ≡ allowed Sni (map (wireAt table) (take i set))
     → k + 1 ≡ allowed Sni (map (wireAt table) (take (i + 1) set))
 inner-counted table set i k h o e = ap (λ (b : Bool). k + oneIf (not b)) (sym o) ∙ inner-more table set i k h e
 
-pub inner-passed : (table set : List ℕ) (i k : ℕ) → i < length set → wireAt table (getD set i 0) .outer ≡ true → k ≡ allowed Sni (map (wireAt table) (take i set))
+pub inner-passed : (table set : List ℕ) (i k : ℕ) → i < length set → wireAt table (getD set i 0) .outer ≡ true
+    → k ≡ allowed Sni (map (wireAt table) (take i set))
     → k ≡ allowed Sni (map (wireAt table) (take (i + 1) set))
 inner-passed table set i k h o e = sym (add-zero k) ∙ ap (λ (b : Bool). k + oneIf (not b)) (sym o) ∙ inner-more table set i k h e
 
@@ -105,10 +111,20 @@ outers-left table n t o e =
     sym (ap total (outers-last table n ∙ ap (λ (b : Bool). outers (map (wireAt table) (upTo n)) ++ cond b (wireAt table n ∷ []) []) o)
     ∙ total-append (outers (map (wireAt table) (upTo n))) [] ∙ plus-none (total (outers (map (wireAt table) (upTo n)))) ∙ sym e)
 
-pub whole-set : (table set : List ℕ) (i : ℕ) (t : Terms) → length set ≤ i → t ≡ total (map (wireAt table) (take i set)) → t ≡ total (map (wireAt table) set)
-whole-set table set i t h e = e ∙ ap (λ l. total (map (wireAt table) l)) (take-all i set h)
+pub whole-set : (table set : List ℕ) (i : ℕ) (t : Terms) → length set ≤ i → t ≡ total (map (wireAt table) (take i set))
+    → (t ≡ total (map (wireAt table) set)) × SumOfValues t (map (wireAt table) set)
+whole-set table set i t h e =
+    let w : t ≡ total (map (wireAt table) set) = e ∙ ap (λ l. total (map (wireAt table) l)) (take-all i set h) in
+    (w, sum-of-values t (map (wireAt table) set) w)
 
-pub whole-count : (table set : List ℕ) (i k : ℕ) → length set ≤ i → k ≡ allowed Sni (map (wireAt table) (take i set)) → k ≡ allowed Sni (map (wireAt table) set)
+pub whole-table : (table : List ℕ) (i : ℕ) (t : Terms) → i ≡ wireCount table → t ≡ total (outers (map (wireAt table) (upTo i)))
+    → (t ≡ total (outers (wires table))) × SumOfValues t (outers (wires table))
+whole-table table i t h e =
+    let w : t ≡ total (outers (wires table)) = e ∙ ap (λ (n : ℕ). total (outers (map (wireAt table) (upTo n)))) h in
+    (w, sum-of-values t (outers (wires table)) w)
+
+pub whole-count : (table set : List ℕ) (i k : ℕ) → length set ≤ i → k ≡ allowed Sni (map (wireAt table) (take i set))
+    → k ≡ allowed Sni (map (wireAt table) set)
 whole-count table set i k h e = e ∙ ap (λ l. allowed Sni (map (wireAt table) l)) (take-all i set h)
 
 pub all-pay : (table set : List ℕ) → length set ≡ allowed Ni (map (wireAt table) set)

@@ -3,6 +3,7 @@
 --     accepted, tested-answer      where the tests pass, the operation's own answer stands
 --     tested-refusal               where they do not, their refusal stands
 --     wire-within, set-within, table-within     an accepted record has no bit beyond shares and masks
+--     set-decided                  the breaking test over all bits of a record is that over the gadget's shares and masks
 --     function-decided             what the code compares decides the function
 --     function-means               what yes and no say of values follows from the equation
 --     refused-before, function-low, function-high, answered     the entry's answers
@@ -19,11 +20,12 @@ use Rattle.basics.specs.Folds.{some, every, keep, oneIf, upTo}
 use Rattle.basics.specs.Told.{Told, values, refusal}
 use Rattle.basics.proofs.Tests.{and-left, and-right, or-none, bool-ext}
 use Rattle.basics.proofs.Folds.{never, every-below}
-use Rattle.wires.specs.Wires.{Terms, Wire, plus, total, beyond}
+use Rattle.wires.specs.declared.Notion.{Notion}
+use Rattle.wires.specs.Wires.{Terms, Wire, plus, total, breaks, beyond}
 use Rattle.wires.specs.Function.{functionTerms, outers, blank, computes}
 use Rattle.wires.proofs.Dependence.{blank-bits, bits-blank}
 use Rattle.wires.proofs.Function.{computes-exactly}
-use Rattle.wires.proofs.Narrow.{Within, AllWithin, within, within-plus, within-total, blank-narrow}
+use Rattle.wires.proofs.Narrow.{Within, AllWithin, within, within-plus, within-total, breaks-narrow, blank-narrow}
 use Rattle.table.specs.Layout.{field, recordAt, wireAt, wireCount, wires, inside, FirstShares}
 use Rattle.table.specs.Answers.{wrongShares, wrongLength, wrongRecord, tested, tableCheck, functionCheck, FunctionMeans}
 
@@ -40,9 +42,12 @@ values-refusal l k e = let z : _≡_ {A = ℕ} 0 1 = cc in omega (arith, z)
 
 module _ (table : List ℕ) (shares masks : ℕ) where
   pub accepted : values [] ≡ tableCheck table shares masks → Accepted table shares masks
-  accepted e = go (wrongShares shares masks) (wrongLength table) (some (λ w. wrongRecord shares masks (recordAt table w)) (upTo (wireCount table))) refl refl refl e
+  accepted e =
+      go (wrongShares shares masks) (wrongLength table) (some (λ w. wrongRecord shares masks (recordAt table w)) (upTo (wireCount table))) refl refl
+      refl e
     where
-      go : (a b c : Bool) → wrongShares shares masks ≡ a → wrongLength table ≡ b → some (λ w. wrongRecord shares masks (recordAt table w)) (upTo (wireCount table)) ≡ c
+      go : (a b c : Bool) → wrongShares shares masks ≡ a → wrongLength table ≡ b
+          → some (λ w. wrongRecord shares masks (recordAt table w)) (upTo (wireCount table)) ≡ c
           → values [] ≡ cond a (refusal 11) (cond b (refusal 12) (cond c (refusal 13) (values []))) → Accepted table shares masks
       go true b c p q r e = absurd (values-refusal [] 11 e)
       go false true c p q r e = absurd (values-refusal [] 12 e)
@@ -52,8 +57,10 @@ module _ (table : List ℕ) (shares masks : ℕ) where
   pub tested-answer : {A : Type 0} (refuse : ℕ → A) (answer : A) → Accepted table shares masks → tested refuse table shares masks answer ≡ answer
   tested-answer refuse answer h = simp (h .goodShares, h .goodLength, h .goodRecords)
 
-  pub tested-refusal : {A : Type 0} (refuse : ℕ → A) (answer : A) (k : ℕ) → refusal k ≡ tableCheck table shares masks → tested refuse table shares masks answer ≡ refuse k
-  tested-refusal refuse answer k e = go (wrongShares shares masks) (wrongLength table) (some (λ w. wrongRecord shares masks (recordAt table w)) (upTo (wireCount table))) e
+  pub tested-refusal : {A : Type 0} (refuse : ℕ → A) (answer : A) (k : ℕ) → refusal k ≡ tableCheck table shares masks
+      → tested refuse table shares masks answer ≡ refuse k
+  tested-refusal refuse answer k e =
+      go (wrongShares shares masks) (wrongLength table) (some (λ w. wrongRecord shares masks (recordAt table w)) (upTo (wireCount table))) e
     where
       same : (i : ℕ) → refusal k ≡ refusal i → refuse i ≡ refuse k
       same i e = let f : i ≡ k = cc in ap refuse f
@@ -86,20 +93,29 @@ module _ (table : List ℕ) (shares masks : ℕ) (h : Accepted table shares mask
   pub wire-within : (w : ℕ) → w < wireCount table → Within 8 64 shares masks (wireAt table w .terms)
   wire-within w l =
       let sound = never (wireCount table) w (λ w. wrongRecord shares masks (recordAt table w)) (h .goodRecords) l in
-      within 8 64 shares masks (wireAt table w .terms) (or-none (beyond 8 64 shares masks (wireAt table w .terms)) (ltb 1 (field 18 1 (recordAt table w))) sound .0)
+      within 8 64 shares masks (wireAt table w .terms)
+      (or-none (beyond 8 64 shares masks (wireAt table w .terms)) (ltb 1 (field 18 1 (recordAt table w))) sound .0)
 
   all-within : (set : List ℕ) → every (λ w. ltb w (wireCount table)) set ≡ true → AllWithin 8 64 shares masks (map (wireAt table) set)
   all-within [] e = tt
   all-within (w ∷ set) e =
-      let rest = every (λ w. ltb w (wireCount table)) set in
-      (wire-within w (ltb-true w (wireCount table) (and-left (ltb w (wireCount table)) rest e)), all-within set (and-right (ltb w (wireCount table)) rest e))
+      let rest = every (λ w. ltb w (wireCount table)) set in (
+        wire-within w (ltb-true w (wireCount table) (and-left (ltb w (wireCount table)) rest e)),
+        all-within set
+            (and-right (ltb w (wireCount table)) rest e),
+      )
 
   pub set-within : (set : List ℕ) → inside table set ≡ true → AllWithin 8 64 shares masks (map (wireAt table) set)
   unfolding inside
   set-within set e = all-within set e
 
   pub table-within : AllWithin 8 64 shares masks (wires table)
-  table-within = all-within (upTo (wireCount table)) (every-below (wireCount table) (λ w. ltb w (wireCount table)) (λ w l. lt-ltb w (wireCount table) l))
+  table-within =
+      all-within (upTo (wireCount table)) (every-below (wireCount table) (λ w. ltb w (wireCount table)) (λ w l. lt-ltb w (wireCount table) l))
+
+  pub set-decided : (notion : Notion) (set : List ℕ) → inside table set ≡ true
+      → breaks notion 8 64 (map (wireAt table) set) ≡ breaks notion shares masks (map (wireAt table) set)
+  set-decided notion set e = breaks-narrow 8 64 shares masks shares-high masks-high notion (map (wireAt table) set) (set-within set e)
 
 keep-within : (N M n m : ℕ) (f : Wire → Bool) (s : List Wire) → AllWithin N M n m s → AllWithin N M n m (keep f s)
 keep-within N M n m f [] h = tt
@@ -151,20 +167,24 @@ module _ (n m : ℕ) (small : n ≤ 8) (few : m ≤ 64) (t u : Terms) (first : F
       (λ j c. ap (xor (s .shareB j)) (first .ofB j (le-trans c small) ∙ ap (λ (z : Bool). t .shareB j && z) (lt-ltb j n c) ∙ and-true (t .shareB j)))
       (λ k c. ap (xor (s .mask k)) (first .masks k (le-trans c few)))
 
-pub function-decided : (table : List ℕ) (shares masks function : ℕ) (u : Terms) → Accepted table shares masks → FirstShares shares (functionTerms function) u
+pub function-decided : (table : List ℕ) (shares masks function : ℕ) (u : Terms) → Accepted table shares masks
+    → FirstShares shares (functionTerms function) u
     → blank 8 64 (plus (total (outers (wires table))) u) ≡ computes function shares masks (wires table)
 unfolding computes
 function-decided table shares masks function u h first =
     let sum = total (outers (wires table)) in
     let small = shares-high table shares masks h in
     let few = masks-high table shares masks h in
-    let sum-within = within-total 8 64 shares masks (outers (wires table)) (keep-within 8 64 shares masks (λ w. w .outer) (wires table) (table-within table shares masks h)) in
+    let sum-within =
+    within-total 8 64 shares masks (outers (wires table))
+    (keep-within 8 64 shares masks (λ w. w .outer) (wires table) (table-within table shares masks h)) in
     blank-narrow 8 64 shares masks small few (plus sum u)
     (within-plus 8 64 shares masks sum u sum-within (cut-within shares masks small few (functionTerms function) u first (λ k. refl)))
     ∙ cut-same shares masks small few (functionTerms function) u first (λ k. refl) sum
 
 -- what a yes or a no says of the test
-decided : (a b c d x k : Bool) → cond a (refusal 11) (cond b (refusal 12) (cond c (refusal 13) (cond d (refusal 20) (values (oneIf x ∷ []))))) ≡ values (oneIf k ∷ []) → x ≡ k
+decided : (a b c d x k : Bool)
+    → cond a (refusal 11) (cond b (refusal 12) (cond c (refusal 13) (cond d (refusal 20) (values (oneIf x ∷ []))))) ≡ values (oneIf k ∷ []) → x ≡ k
 decided true b c d x k e = absurd (values-refusal (oneIf k ∷ []) 11 (sym e))
 decided false true c d x k e = absurd (values-refusal (oneIf k ∷ []) 12 (sym e))
 decided false false true d x k e = absurd (values-refusal (oneIf k ∷ []) 13 (sym e))
@@ -174,7 +194,8 @@ decided false false false false false false e = refl
 decided false false false false true false e = let z : _≡_ {A = ℕ} 1 0 = cc in absurd (omega (arith, z))
 decided false false false false false true e = let z : _≡_ {A = ℕ} 0 1 = cc in absurd (omega (arith, z))
 
-pub function-means : (told : Told) (table : List ℕ) (shares masks function : ℕ) → told ≡ functionCheck table shares masks function → FunctionMeans told table shares masks function
+pub function-means : (told : Told) (table : List ℕ) (shares masks function : ℕ) → told ≡ functionCheck table shares masks function
+    → FunctionMeans told table shares masks function
 function-means told table shares masks function e =
     let test = computes function shares masks (wires table) in
     let told-is : (k : Bool) → told ≡ values (oneIf k ∷ []) → test ≡ k = λ k f.
@@ -212,9 +233,11 @@ module _ (table : List ℕ) (shares masks function : ℕ) where
     pub function-high : 1 ≤ function → 3 < function → Promise (refusal 20) table shares masks function
     function-high l h = promised (refusal 20) (sym (own ∙ simp (le-leb 1 function l, lt-leb function 3 h)))
 
-    pub answered : (x y : Bool) (s t u : Terms) → 1 ≤ function → function ≤ 3 → s ≡ total (outers (wires table)) → FirstShares shares (functionTerms function) t → u ≡ plus s t
+    pub answered : (x y : Bool) (s t u : Terms) → 1 ≤ function → function ≤ 3 → s ≡ total (outers (wires table))
+        → FirstShares shares (functionTerms function) t → u ≡ plus s t
         → x ≡ blank 8 64 u → x ≡ y → Promise (values (oneIf y ∷ [])) table shares masks function
     answered x y s t u l h es ft eu ex e =
         let c : y ≡ computes function shares masks (wires table) =
-        sym e ∙ ex ∙ ap (blank 8 64) (eu ∙ ap (λ (v : Terms). plus v t) es) ∙ function-decided table shares masks function t (accepted table shares masks ok) ft in
+        sym e ∙ ex ∙ ap (blank 8 64) (eu ∙ ap (λ (v : Terms). plus v t) es)
+        ∙ function-decided table shares masks function t (accepted table shares masks ok) ft in
         promised (values (oneIf y ∷ [])) (sym (own ∙ simp (le-leb 1 function l, le-leb function 3 h, c)))

@@ -37,7 +37,8 @@ first-products n i j h k l =
     let test : ℕ → ℕ → ℕ → Bool = λ n i j. not (xor (bit (getD products n 0) (8 * i + j)) (ltb i n && ltb j n)) in
     let all : every (λ n. every (λ i. every (test n i) (upTo 8)) (upTo 8)) (upTo 9) ≡ true = refl in
     equal (bit (getD products n 0) (8 * i + j)) (ltb i n && ltb j n)
-    (every-at 8 j (test n i) (every-at 8 i (λ i. every (test n i) (upTo 8)) (every-at 9 n (λ n. every (λ i. every (test n i) (upTo 8)) (upTo 8)) all (suc-le-suc h)) k) l)
+    (every-at 8 j (test n i)
+    (every-at 8 i (λ i. every (test n i) (upTo 8)) (every-at 9 n (λ n. every (λ i. every (test n i) (upTo 8)) (upTo 8)) all (suc-le-suc h)) k) l)
 
 pub first-shares : (n i : ℕ) → n ≤ 8 → i < 8 → bit (getD shares n 0) i ≡ ltb i n
 unfolding bit upTo xor
@@ -47,7 +48,8 @@ first-shares n i h k =
     equal (bit (getD shares n 0) i) (ltb i n) (every-at 8 i (test n) (every-at 9 n (λ n. every (test n) (upTo 8)) all (suc-le-suc h)) k)
 
 module _ (function n : ℕ) (small : n ≤ 8) (x y : Bool) (ex : eqb function 1 ≡ x) (ey : eqb function 2 ≡ y) where
-  terms : (p a b : ℕ) → ((i j : ℕ) → i < 8 → j < 8 → bit p (8 * i + j) ≡ (x && (ltb i n && ltb j n))) → ((i : ℕ) → i < 8 → bit a i ≡ (not x && ltb i n))
+  terms : (p a b : ℕ) → ((i j : ℕ) → i < 8 → j < 8 → bit p (8 * i + j) ≡ (x && (ltb i n && ltb j n)))
+      → ((i : ℕ) → i < 8 → bit a i ≡ (not x && ltb i n))
       → ((j : ℕ) → j < 8 → bit b j ≡ (y && ltb j n)) → FirstShares n (functionTerms function) (decodeTerms p 0 a b)
   terms p a b ep ea eb = record {
     products = λ i j h k. ep i j h k ∙ ap (λ (z : Bool). z && (ltb i n && ltb j n)) (sym ex);
@@ -61,12 +63,14 @@ product-record function n h e =
     terms function n h true false (eq-eqb function 1 e) (ap (λ (f : ℕ). eqb f 2) e) (getD products n 0) 0 0
     (λ i j k l. first-products n i j h k l) (λ i k. bit-zero i) (λ j k. bit-zero j)
 
-pub sum-record : (function n : ℕ) → n ≤ 8 → function ≡ 2 → FirstShares n (functionTerms function) (decodeTerms 0 0 (getD shares n 0) (getD shares n 0))
+pub sum-record : (function n : ℕ) → n ≤ 8 → function ≡ 2
+    → FirstShares n (functionTerms function) (decodeTerms 0 0 (getD shares n 0) (getD shares n 0))
 sum-record function n h e =
     terms function n h false true (ap (λ (f : ℕ). eqb f 1) e) (eq-eqb function 2 e) 0 (getD shares n 0) (getD shares n 0)
     (λ i j k l. bit-zero (8 * i + j)) (λ i k. first-shares n i h k) (λ j k. first-shares n j h k)
 
-pub copy-record : (function n : ℕ) → n ≤ 8 → (function ≡ 1 → ⊥) → (function ≡ 2 → ⊥) → FirstShares n (functionTerms function) (decodeTerms 0 0 (getD shares n 0) 0)
+pub copy-record : (function n : ℕ) → n ≤ 8 → (function ≡ 1 → ⊥) → (function ≡ 2 → ⊥)
+    → FirstShares n (functionTerms function) (decodeTerms 0 0 (getD shares n 0) 0)
 copy-record function n h e f =
     terms function n h false false (ne-eqb function 1 e) (ne-eqb function 2 f) 0 (getD shares n 0) 0
     (λ i j k l. bit-zero (8 * i + j)) (λ i k. first-shares n i h k) (λ j k. bit-zero j)

@@ -22,7 +22,10 @@ use Rattle.table.proofs.Adding.{outer-byte}
 
 pub limit-past : (w s : ℕ) → 64 ≤ s → true ≡ not (some (λ k. bit w k && leb s k) (upTo 64))
 limit-past w s h =
-    sym (ap not (fold-below _||_ false 64 (λ k. bit w k && leb s k) (λ k. false) (λ k l. ap (λ (b : Bool). bit w k && b) (lt-leb s k (lt-of-lt-of-le l h)) ∙ and-none (bit w k))
+    sym
+    (ap not
+    (fold-below _||_ false 64 (λ k. bit w k && leb s k) (λ k. false)
+    (λ k l. ap (λ (b : Bool). bit w k && b) (lt-leb s k (lt-of-lt-of-le l h)) ∙ and-none (bit w k))
     ∙ fold-unit _||_ false (λ b. refl) (λ k. false) (upTo 64) (λ k. refl)))
   where
     and-none : (b : Bool) → (b && false) ≡ false
@@ -49,10 +52,12 @@ some-and c = fold-hom _||_ false _||_ false (λ (b : Bool). b && c) refl (λ a b
 
 -- a row or a single bit beyond
 rows-beyond : (t : Terms) (n : ℕ) (late : ℕ → Bool)
-    → some (λ i. dependsA n t i && late i) (upTo n) ≡ (some (λ i. some (λ j. t .product i j && late i) (upTo n)) (upTo n) || some (λ i. t .shareA i && late i) (upTo n))
+    → some (λ i. dependsA n t i && late i) (upTo n)
+    ≡ (some (λ i. some (λ j. t .product i j && late i) (upTo n)) (upTo n) || some (λ i. t .shareA i && late i) (upTo n))
 rows-beyond t n late =
     fold-cong _||_ false (λ i. dependsA n t i && late i) (λ i. some (λ j. t .product i j && late i) (upTo n) || t .shareA i && late i) (upTo n)
-    (λ i. and-or (some (t .product i) (upTo n)) (t .shareA i) (late i) ∙ ap (λ (b : Bool). b || t .shareA i && late i) (some-and (late i) (t .product i) (upTo n)))
+    (λ i. and-or (some (t .product i) (upTo n)) (t .shareA i) (late i)
+    ∙ ap (λ (b : Bool). b || t .shareA i && late i) (some-and (late i) (t .product i) (upTo n)))
     ∙ some-both (λ i. some (λ j. t .product i j && late i) (upTo n)) (λ i. t .shareA i && late i) (upTo n)
 
 -- a product beyond has its row or its column beyond
@@ -62,7 +67,8 @@ products-beyond : (t : Terms) (n : ℕ) (late : ℕ → Bool)
 products-beyond t n late =
     fold-cong _||_ false (λ i. some (λ j. t .product i j && (late i || late j)) (upTo n))
     (λ i. some (λ j. t .product i j && late i) (upTo n) || some (λ j. t .product i j && late j) (upTo n)) (upTo n)
-    (λ i. fold-cong _||_ false (λ j. t .product i j && (late i || late j)) (λ j. t .product i j && late i || t .product i j && late j) (upTo n) (λ j. or-and (t .product i j) (late i) (late j))
+    (λ i. fold-cong _||_ false (λ j. t .product i j && (late i || late j)) (λ j. t .product i j && late i || t .product i j && late j) (upTo n)
+    (λ j. or-and (t .product i j) (late i) (late j))
     ∙ some-both (λ j. t .product i j && late i) (λ j. t .product i j && late j) (upTo n))
     ∙ some-both (λ i. some (λ j. t .product i j && late i) (upTo n)) (λ i. some (λ j. t .product i j && late j) (upTo n)) (upTo n)
     ∙ ap (λ (b : Bool). some (λ i. some (λ j. t .product i j && late i) (upTo n)) (upTo n) || b)
@@ -75,23 +81,31 @@ regroup false true false b k = refl
 regroup false false a b k = refl
 
 -- the words hold no bit from 8 on
-narrowed : (t : Terms) (w n : ℕ) → w < 256 → ((i : ℕ) → i < 8 → bit w i ≡ dependsA 8 t i) → some (λ i. bit w i && leb n i) (upTo 64) ≡ some (λ i. dependsA 8 t i && leb n i) (upTo 8)
+narrowed : (t : Terms) (w n : ℕ) → w < 256 → ((i : ℕ) → i < 8 → bit w i ≡ dependsA 8 t i)
+    → some (λ i. bit w i && leb n i) (upTo 64) ≡ some (λ i. dependsA 8 t i && leb n i) (upTo 8)
 narrowed t w n h e =
-    fold-narrow _||_ false (λ b. refl) or-false 8 64 (λ i. bit w i && leb n i) (omega arith) (λ i l k. ap (λ (b : Bool). b && leb n i) (bit-high 8 w i h l))
+    fold-narrow _||_ false (λ b. refl) or-false 8 64 (λ i. bit w i && leb n i) (omega arith)
+    (λ i l k. ap (λ (b : Bool). b && leb n i) (bit-high 8 w i h l))
     ∙ fold-below _||_ false 8 (λ i. bit w i && leb n i) (λ i. dependsA 8 t i && leb n i) (λ i l. ap (λ (b : Bool). b && leb n i) (e i l))
 
-pub beyond-words : (t : Terms) (n m wa wb k : ℕ) → wa < 256 → ((i : ℕ) → i < 8 → bit wa i ≡ dependsA 8 t i) → wb < 256 → ((j : ℕ) → j < 8 → bit wb j ≡ dependsB 8 t j)
+pub beyond-words : (t : Terms) (n m wa wb k : ℕ) → wa < 256 → ((i : ℕ) → i < 8 → bit wa i ≡ dependsA 8 t i) → wb < 256
+    → ((j : ℕ) → j < 8 → bit wb j ≡ dependsB 8 t j)
     → ((i : ℕ) → bit k i ≡ t .mask i)
-    → (some (λ i. bit wa i && leb n i) (upTo 64) || some (λ j. bit wb j && leb n j) (upTo 64) || some (λ i. bit k i && leb m i) (upTo 64)) ≡ beyond 8 64 n m t
+    → (some (λ i. bit wa i && leb n i) (upTo 64) || some (λ j. bit wb j && leb n j) (upTo 64) || some (λ i. bit k i && leb m i) (upTo 64))
+    ≡ beyond 8 64 n m t
 unfolding beyond
 beyond-words t n m wa wb k la ea lb eb ek =
     let late : ℕ → Bool = λ i. leb n i in
     ap₂ (λ (x y : Bool). x || y)
     (ap₂ (λ (x y : Bool). x || y) (narrowed t wa n la ea ∙ rows-beyond t 8 late) (narrowed (swap t) wb n lb eb ∙ rows-beyond (swap t) 8 late))
     (fold-cong _||_ false (λ i. bit k i && leb m i) (λ i. t .mask i && leb m i) (upTo 64) (λ i. ap (λ (b : Bool). b && leb m i) (ek i)))
-    ∙ sym (regroup (some (λ i. some (λ j. t .product i j && late i) (upTo 8)) (upTo 8)) (some (λ j. some (λ i. t .product i j && late j) (upTo 8)) (upTo 8))
+    ∙ sym
+    (regroup (some (λ i. some (λ j. t .product i j && late i) (upTo 8)) (upTo 8))
+    (some (λ j. some (λ i. t .product i j && late j) (upTo 8)) (upTo 8))
     (some (λ i. t .shareA i && late i) (upTo 8)) (some (λ j. t .shareB j && late j) (upTo 8)) (some (λ i. t .mask i && leb m i) (upTo 64)))
-    ∙ ap (λ (b : Bool). b || some (λ i. t .shareA i && late i) (upTo 8) || some (λ j. t .shareB j && late j) (upTo 8) || some (λ i. t .mask i && leb m i) (upTo 64))
+    ∙ ap
+    (λ (b : Bool). b || some (λ i. t .shareA i && late i) (upTo 8) || some (λ j. t .shareB j && late j) (upTo 8)
+    || some (λ i. t .mask i && leb m i) (upTo 64))
     (sym (products-beyond t 8 late))
 
 -- ---- the record test, as the code makes it
@@ -105,17 +119,20 @@ module _ (table : List ℕ) (wire n m p k a b wa wb : ℕ) (inside : wire < wire
   found : wrongRecord n m (recordAt table wire) ≡ (late wa n || late wb n || late k m || ltb 1 (getD table (24 * wire + 18) 0))
   found =
       ap (λ (t : Terms). beyond 8 64 n m t || ltb 1 (field 18 1 (recordAt table wire))) (sym e)
-      ∙ ap₂ (λ (x : Bool) (y : ℕ). x || ltb 1 y) (sym (beyond-words (decodeTerms p k a b) n m wa wb k la ea lb eb (λ i. refl))) (sym (outer-byte table wire inside))
+      ∙ ap₂ (λ (x : Bool) (y : ℕ). x || ltb 1 y) (sym (beyond-words (decodeTerms p k a b) n m wa wb k la ea lb eb (λ i. refl)))
+      (sym (outer-byte table wire inside))
 
   pub a-beyond : (x : Bool) → x ≡ not (late wa n) → x ≡ false → false ≡ not (wrongRecord n m (recordAt table wire))
-  a-beyond x ex f = sym (ap not (found ∙ first (late wa n) (late wb n) (late k m) (ltb 1 (getD table (24 * wire + 18) 0)) (not-false (late wa n) (sym ex ∙ f))))
+  a-beyond x ex f =
+      sym (ap not (found ∙ first (late wa n) (late wb n) (late k m) (ltb 1 (getD table (24 * wire + 18) 0)) (not-false (late wa n) (sym ex ∙ f))))
     where
       first : (x y z w : Bool) → x ≡ true → (x || y || z || w) ≡ true
       first true y z w e = refl
       first false y z w e = absurd (false≢true e)
 
   pub b-beyond : (y : Bool) → y ≡ not (late wb n) → y ≡ false → false ≡ not (wrongRecord n m (recordAt table wire))
-  b-beyond y ey f = sym (ap not (found ∙ second (late wa n) (late wb n) (late k m) (ltb 1 (getD table (24 * wire + 18) 0)) (not-false (late wb n) (sym ey ∙ f))))
+  b-beyond y ey f =
+      sym (ap not (found ∙ second (late wa n) (late wb n) (late k m) (ltb 1 (getD table (24 * wire + 18) 0)) (not-false (late wb n) (sym ey ∙ f))))
     where
       second : (x y z w : Bool) → y ≡ true → (x || y || z || w) ≡ true
       second true y z w e = refl
@@ -123,7 +140,8 @@ module _ (table : List ℕ) (wire n m p k a b wa wb : ℕ) (inside : wire < wire
       second false false z w e = absurd (false≢true e)
 
   pub mask-beyond : (z : Bool) → z ≡ not (late k m) → z ≡ false → false ≡ not (wrongRecord n m (recordAt table wire))
-  mask-beyond z ez f = sym (ap not (found ∙ third (late wa n || late wb n) (late k m) (ltb 1 (getD table (24 * wire + 18) 0)) (not-false (late k m) (sym ez ∙ f))))
+  mask-beyond z ez f =
+      sym (ap not (found ∙ third (late wa n || late wb n) (late k m) (ltb 1 (getD table (24 * wire + 18) 0)) (not-false (late k m) (sym ez ∙ f))))
     where
       third : (x z w : Bool) → z ≡ true → (x || z || w) ≡ true
       third true z w e = refl
@@ -134,7 +152,11 @@ module _ (table : List ℕ) (wire n m p k a b wa wb : ℕ) (inside : wire < wire
       → leb (getD table (24 * wire + 18) 0) 1 ≡ not (wrongRecord n m (recordAt table wire))
   then-the-flag x y z ex ey ez fx fy fz =
       leb-not-ltb (getD table (24 * wire + 18) 0)
-      ∙ sym (ap not (found ∙ ap₂ (λ (u v : Bool). u || v || late k m || ltb 1 (getD table (24 * wire + 18) 0)) (not-true (late wa n) (sym ex ∙ fx)) (not-true (late wb n) (sym ey ∙ fy))
+      ∙ sym
+      (ap not
+      (found
+      ∙ ap₂ (λ (u v : Bool). u || v || late k m || ltb 1 (getD table (24 * wire + 18) 0)) (not-true (late wa n) (sym ex ∙ fx))
+      (not-true (late wb n) (sym ey ∙ fy))
       ∙ ap (λ (u : Bool). u || ltb 1 (getD table (24 * wire + 18) 0)) (not-true (late k m) (sym ez ∙ fz))))
     where
       leb-not-ltb : (v : ℕ) → leb v 1 ≡ not (ltb 1 v)

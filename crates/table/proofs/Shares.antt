@@ -58,15 +58,19 @@ pub rows-bits : (p g h : ℕ) → ((k : ℕ) → bit g k ≡ some (λ j. bit p (
 rows-bits p g h eg eh i l =
     bit-low h 8 i l ∙ eh i
     ∙ fold-below _||_ false 8 (λ s. bit (bitAnd g 0x0101010101010101) (7 * s + i)) (λ s. cond (eqb s i) (bit g (7 * s + i)) false)
-    (λ s k. bit-and g 0x0101010101010101 (7 * s + i) ∙ ap (λ (b : Bool). bit g (7 * s + i) && b) (marks i s l k) ∙ and-cond (bit g (7 * s + i)) (eqb s i))
+    (λ s k. bit-and g 0x0101010101010101 (7 * s + i) ∙ ap (λ (b : Bool). bit g (7 * s + i) && b) (marks i s l k)
+    ∙ and-cond (bit g (7 * s + i)) (eqb s i))
     ∙ fold-pick _||_ false (λ b. refl) or-false 8 i (λ s. bit g (7 * s + i)) l
     ∙ eg (7 * i + i)
-    ∙ fold-cong _||_ false (λ j. bit p (1 * j + (7 * i + i))) (λ j. bit p (8 * i + j)) (upTo 8) (λ j. let e : 1 * j + (7 * i + i) ≡ 8 * i + j = omega arith in ap (bit p) e)
+    ∙ fold-cong _||_ false (λ j. bit p (1 * j + (7 * i + i))) (λ j. bit p (8 * i + j)) (upTo 8)
+    (λ j. let e : 1 * j + (7 * i + i) ≡ 8 * i + j = omega arith in ap (bit p) e)
 
-pub columns-bits : (p g : ℕ) → ((k : ℕ) → bit g k ≡ some (λ i. bit p (8 * i + k)) (upTo 8)) → (j : ℕ) → j < 8 → bit (g % 256) j ≡ some (λ i. bit p (8 * i + j)) (upTo 8)
+pub columns-bits : (p g : ℕ) → ((k : ℕ) → bit g k ≡ some (λ i. bit p (8 * i + k)) (upTo 8)) → (j : ℕ) → j < 8
+    → bit (g % 256) j ≡ some (λ i. bit p (8 * i + j)) (upTo 8)
 columns-bits p g eg j l = bit-low g 8 j l ∙ eg j
 
-pub seen-bits : (t : Terms) (w v b i : ℕ) → bit w i ≡ some (t .product i) (upTo 8) → v ≡ b → bit b i ≡ t .shareA i → bit (bitOr w v) i ≡ dependsA 8 t i
+pub seen-bits : (t : Terms) (w v b i : ℕ) → bit w i ≡ some (t .product i) (upTo 8) → v ≡ b → bit b i ≡ t .shareA i
+    → bit (bitOr w v) i ≡ dependsA 8 t i
 seen-bits t w v b i ew ev eb = bit-or w v i ∙ ap₂ (λ (x y : Bool). x || y) ew (ap (λ (x : ℕ). bit x i) ev ∙ eb)
 
 pub seen-ones : (t : Terms) (w : ℕ) → w < 256 → ((i : ℕ) → i < 8 → bit w i ≡ dependsA 8 t i) → ones w ≡ countA 8 t

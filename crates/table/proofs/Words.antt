@@ -105,7 +105,9 @@ unfolding upTo
 ones-count zero n h = ap ones (lt-one h) ∙ ones-ones 0
 ones-count (suc d) n h =
     ones-step n
-    ∙ ap₂ _+_ (lowest n) (ones-count d (n / 2) (half d n h) ∙ fold-cong _+_ 0 (λ i. oneIf (bit (n / 2) i)) (λ i. oneIf (bit n (suc i))) (upTo d) (λ i. ap oneIf (sym (bit-next n i))))
+    ∙ ap₂ _+_ (lowest n)
+    (ones-count d (n / 2) (half d n h)
+    ∙ fold-cong _+_ 0 (λ i. oneIf (bit (n / 2) i)) (λ i. oneIf (bit n (suc i))) (upTo d) (λ i. ap oneIf (sym (bit-next n i))))
     ∙ sym (fold-first _+_ 0 d (λ i. oneIf (bit n i)))
 
 -- the s lowest digits
@@ -122,7 +124,8 @@ bit-low n (suc s) k h = sym (bit-parts n (suc s) k h)
     bit-parts : (n s k : ℕ) → k < s → bit n k ≡ bit (n % 2 ^ s) k
     bit-parts n zero k h = let z : ⊥ = omega (arith, h) in absurd z
     bit-parts n (suc s) zero h = bit-first n ∙ ap (λ (x : ℕ). eqb x 1) (sym (low-first n s)) ∙ sym (bit-first (n % 2 ^ suc s))
-    bit-parts n (suc s) (suc k) h = bit-next n k ∙ bit-parts (n / 2) s k (le-of-suc-le-suc h) ∙ ap (λ (x : ℕ). bit x k) (sym (low-half n s)) ∙ sym (bit-next (n % 2 ^ suc s) k)
+    bit-parts n (suc s) (suc k) h =
+        bit-next n k ∙ bit-parts (n / 2) s k (le-of-suc-le-suc h) ∙ ap (λ (x : ℕ). bit x k) (sym (low-half n s)) ∙ sym (bit-next (n % 2 ^ suc s) k)
 
 -- ---- words that are 0
 
@@ -130,7 +133,9 @@ pub no-bit : (d w : ℕ) → w < 2 ^ d → ((k : ℕ) → k < d → bit w k ≡ 
 no-bit d w h f = bits-ext d w 0 h (lt-of-lt-of-le (zero-lt-suc 0) (pow-mono {i = 0} {j = d} zero-le)) (λ k l. f k l ∙ sym (bit-zero k))
 
 pub none-from : (d w s : ℕ) → w < 2 ^ d → eqb (w / 2 ^ s) 0 ≡ not (some (λ k. bit w k && leb s k) (upTo d))
-none-from d w s h = bool-ext (eqb (w / 2 ^ s) 0) (not (some (λ k. bit w k && leb s k) (upTo d))) (λ e. there (some (λ k. bit w k && leb s k) (upTo d)) refl (eqb-true (w / 2 ^ s) 0 e)) back
+none-from d w s h =
+    bool-ext (eqb (w / 2 ^ s) 0) (not (some (λ k. bit w k && leb s k) (upTo d)))
+    (λ e. there (some (λ k. bit w k && leb s k) (upTo d)) refl (eqb-true (w / 2 ^ s) 0 e)) back
   where
     there : (b : Bool) → some (λ k. bit w k && leb s k) (upTo d) ≡ b → w / 2 ^ s ≡ 0 → not b ≡ true
     there false e z = refl
@@ -138,7 +143,10 @@ none-from d w s h = bool-ext (eqb (w / 2 ^ s) 0) (not (some (λ k. bit w k && le
         let f = some-where d (λ k. bit w k && leb s k) e in
         let l = leb-true s (f .0) (and-right (bit w (f .0)) (leb s (f .0)) (f .2)) in
         let i : s + (f .0 - s) ≡ f .0 = omega (arith, l) in
-        absurd (true≢false (sym (and-left (bit w (f .0)) (leb s (f .0)) (f .2)) ∙ ap (bit w) (sym i) ∙ sym (bit-shift w s (f .0 - s)) ∙ ap (λ (x : ℕ). bit x (f .0 - s)) z ∙ bit-zero (f .0 - s)))
+        absurd
+        (true≢false
+        (sym (and-left (bit w (f .0)) (leb s (f .0)) (f .2)) ∙ ap (bit w) (sym i) ∙ sym (bit-shift w s (f .0 - s))
+        ∙ ap (λ (x : ℕ). bit x (f .0 - s)) z ∙ bit-zero (f .0 - s)))
 
     upper : not (some (λ k. bit w k && leb s k) (upTo d)) ≡ true → (k : ℕ) → k < d → bit (w / 2 ^ s) k ≡ false
     upper e k l = bit-shift w s k ∙ go (bit w (s + k)) refl (decLt (s + k) d)
@@ -156,4 +164,6 @@ none-from d w s h = bool-ext (eqb (w / 2 ^ s) 0) (not (some (λ k. bit w k && le
 pub zero-test : (d w : ℕ) → w < 2 ^ d → eqb w 0 ≡ not (some (bit w) (upTo d))
 zero-test d w h =
     ap (λ (x : ℕ). eqb x 0) (sym (div-one w)) ∙ none-from d w 0 h
-    ∙ ap not (fold-cong _||_ false (λ k. bit w k && leb 0 k) (bit w) (upTo d) (λ k. ap (λ (b : Bool). bit w k && b) (le-leb 0 k zero-le) ∙ and-true (bit w k)))
+    ∙ ap not
+    (fold-cong _||_ false (λ k. bit w k && leb 0 k) (bit w) (upTo d)
+    (λ k. ap (λ (b : Bool). bit w k && b) (le-leb 0 k zero-le) ∙ and-true (bit w k)))

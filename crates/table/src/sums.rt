@@ -5,7 +5,7 @@ ghost use mathlib.Core.Bool.{true};
 ghost use mathlib.Core.List.{map};
 ghost use Prim.Native.Nat.{ℕ, _≤_, _<_, _+_, _*_};
 ghost use Rattle.basics.specs.Folds.{some, upTo};
-ghost use Rattle.wires.specs.Wires.{none, plus, total, countA, countB, allowed, breaks, dependsA, dependsB};
+ghost use Rattle.wires.specs.Wires.{none, plus, total, SumOfValues, countA, countB, allowed, breaks, dependsA, dependsB};
 ghost use Rattle.wires.specs.Function.{outers};
 ghost use Rattle.table.specs.Words.{bit};
 ghost use Rattle.table.specs.Layout.{wireAt, wireCount, wires, inside, termsOf};
@@ -88,6 +88,7 @@ fn nothing() -> Sum
 pub fn sum_of_set(table: &[u8], set: &[u16]) -> Sum
     requires { ⌜ inside (now table) (now set) ≡ true ⌝ }
     ensures { λ r. ⌜ termsOf r ≡ total (map (wireAt (now (table .entry))) (now (set .entry))) ⌝ }
+    ensures { λ r. ⌜ SumOfValues (termsOf r) (map (wireAt (now (table .entry))) (now (set .entry))) ⌝ }
 {
     let mut sum = nothing();
     let mut i = 0;
@@ -101,6 +102,7 @@ pub fn sum_of_set(table: &[u8], set: &[u16]) -> Sum
 // The records of a table's outer wires added up.
 pub fn sum_of_outers(table: &[u8]) -> Sum
     ensures { λ r. ⌜ termsOf r ≡ total (outers (wires (now (table .entry)))) ⌝ }
+    ensures { λ r. ⌜ SumOfValues (termsOf r) (outers (wires (now (table .entry)))) ⌝ }
 {
     let count = table.len() / RECORD_BYTES;
     let mut sum = nothing();

@@ -37,7 +37,8 @@ parity-never f l = fold-unit xor false false-xor (λ x. f x && false) l (λ x. a
 module _ (n m i : ℕ) (below : i < n) (x : Input) (r : ℕ → Bool) (t : Terms) where
   -- one row of the products: with share k changed where c says so, the row's sum with b's shares is added
   row : (p : ℕ → Bool) (a c : Bool)
-      → parity (λ j. p j && (xor a c && x .ofB j)) (upTo n) ≡ xor (parity (λ j. p j && (a && x .ofB j)) (upTo n)) (cond c (parity (λ j. p j && x .ofB j) (upTo n)) false)
+      → parity (λ j. p j && (xor a c && x .ofB j)) (upTo n)
+      ≡ xor (parity (λ j. p j && (a && x .ofB j)) (upTo n)) (cond c (parity (λ j. p j && x .ofB j) (upTo n)) false)
   row p a c =
       fold-cong xor false (λ j. p j && (xor a c && x .ofB j)) (λ j. xor (p j && (a && x .ofB j)) (p j && (c && x .ofB j))) (upTo n)
       (λ j. ap (λ (z : Bool). p j && z) (and-xor a c (x .ofB j)) ∙ xor-and (p j) (a && x .ofB j) (c && x .ofB j))
@@ -49,12 +50,16 @@ module _ (n m i : ℕ) (below : i < n) (x : Input) (r : ℕ → Bool) (t : Terms
       chosen false = parity-never p (upTo n)
 
   products : parity (λ k. parity (λ j. t .product k j && (xor (x .ofA k) (eqb k i) && x .ofB j)) (upTo n)) (upTo n)
-      ≡ xor (parity (λ k. parity (λ j. t .product k j && (x .ofA k && x .ofB j)) (upTo n)) (upTo n)) (parity (λ j. t .product i j && x .ofB j) (upTo n))
+      ≡ xor (parity (λ k. parity (λ j. t .product k j && (x .ofA k && x .ofB j)) (upTo n)) (upTo n))
+      (parity (λ j. t .product i j && x .ofB j) (upTo n))
   products =
       fold-cong xor false (λ k. parity (λ j. t .product k j && (xor (x .ofA k) (eqb k i) && x .ofB j)) (upTo n))
-      (λ k. xor (parity (λ j. t .product k j && (x .ofA k && x .ofB j)) (upTo n)) (cond (eqb k i) (parity (λ j. t .product k j && x .ofB j) (upTo n)) false)) (upTo n)
+      (λ k. xor (parity (λ j. t .product k j && (x .ofA k && x .ofB j)) (upTo n))
+      (cond (eqb k i) (parity (λ j. t .product k j && x .ofB j) (upTo n)) false))
+      (upTo n)
       (λ k. row (t .product k) (x .ofA k) (eqb k i))
-      ∙ parity-both (λ k. parity (λ j. t .product k j && (x .ofA k && x .ofB j)) (upTo n)) (λ k. cond (eqb k i) (parity (λ j. t .product k j && x .ofB j) (upTo n)) false) (upTo n)
+      ∙ parity-both (λ k. parity (λ j. t .product k j && (x .ofA k && x .ofB j)) (upTo n))
+      (λ k. cond (eqb k i) (parity (λ j. t .product k j && x .ofB j) (upTo n)) false) (upTo n)
       ∙ ap (xor (parity (λ k. parity (λ j. t .product k j && (x .ofA k && x .ofB j)) (upTo n)) (upTo n)))
       (parity-pick n i (λ k. parity (λ j. t .product k j && x .ofB j) (upTo n)) below)
 
@@ -73,7 +78,8 @@ module _ (n m i : ℕ) (below : i < n) (x : Input) (r : ℕ → Bool) (t : Terms
       let a = parity (λ k. t .shareA k && x .ofA k) (upTo n) in
       let rest = xor (parity (λ j. t .shareB j && x .ofB j) (upTo n)) (parity (λ k. t .mask k && r k) (upTo m)) in
       ap₂ (λ (u v : Bool). xor u (xor v rest)) products singles
-      ∙ ap (xor (xor p q)) (ap (xor (xor a (t .shareA i))) (sym (xor-false rest)) ∙ xor-two a (t .shareA i) rest false ∙ ap (xor (xor a rest)) (xor-false (t .shareA i)))
+      ∙ ap (xor (xor p q))
+      (ap (xor (xor a (t .shareA i))) (sym (xor-false rest)) ∙ xor-two a (t .shareA i) rest false ∙ ap (xor (xor a rest)) (xor-false (t .shareA i)))
       ∙ xor-two p q (xor a rest) (t .shareA i)
 
 -- with b's shares 0 where the single bit is set, else with one share of b that the row names
@@ -121,13 +127,15 @@ depends-exactly n m i t h = (there, back)
       where
         go : (b : Bool) → dependsA n t i ≡ b → b ≡ true
         go true e = refl
-        go false e = absurd (w .1 (λ k. false) (value-agree n m (w .0) (flipA i (w .0)) (λ k. false) t (λ k b d. elsewhere (w .0) k e d) (λ k b d. refl)))
+        go false e =
+            absurd (w .1 (λ k. false) (value-agree n m (w .0) (flipA i (w .0)) (λ k. false) t (λ k b d. elsewhere (w .0) k e d) (λ k b d. refl)))
 
 pub depends-exactly-b : (n m j : ℕ) (t : Terms) → j < n
     → (dependsB n t j ≡ true) ↔ ((x : Input) × ((r : ℕ → Bool) → value n m x r t ≡ value n m (flipB j x) r t → ⊥))
 depends-exactly-b n m j t h =
     let iff = depends-exactly n m j (swap t) h in (
-      λ d. let w = iff .0 d in (swapInput (w .0), λ r e. w .1 r (value-swap n m (swapInput (w .0)) r t ∙ e ∙ sym (value-swap n m (flipB j (swapInput (w .0))) r t))),
+      λ d. let w = iff .0 d in
+          (swapInput (w .0), λ r e. w .1 r (value-swap n m (swapInput (w .0)) r t ∙ e ∙ sym (value-swap n m (flipB j (swapInput (w .0))) r t))),
       λ w. iff .1 (swapInput (w .0), λ r e. w .1 r (sym (value-swap n m (w .0) r t) ∙ e ∙ value-swap n m (flipB j (w .0)) r t)),
     )
 
@@ -137,7 +145,8 @@ module _ (n m : ℕ) (t : Terms) where
   unfolding value
   masks-alone r =
       let rest = parity (λ k. t .mask k && r k) (upTo m) in
-      ap₂ xor (fold-unit xor false false-xor (λ i. parity (λ j. t .product i j && false) (upTo n)) (upTo n) (λ i. parity-never (t .product i) (upTo n)))
+      ap₂ xor
+      (fold-unit xor false false-xor (λ i. parity (λ j. t .product i j && false) (upTo n)) (upTo n) (λ i. parity-never (t .product i) (upTo n)))
       (ap₂ xor (parity-never (t .shareA) (upTo n)) (ap (λ (z : Bool). xor z rest) (parity-never (t .shareB) (upTo n))))
       ∙ false-xor (xor false (xor false rest)) ∙ false-xor (xor false rest) ∙ false-xor rest
 

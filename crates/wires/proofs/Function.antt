@@ -26,18 +26,23 @@ all-or-none : (n m : ℕ) (x : Input) (r : ℕ → Bool) (p a b : Bool) → let 
     value n m x r (record { product = λ i j. p; shareA = λ i. a; shareB = λ j. b; mask = λ k. false }) ≡ xor (p && (A && B)) (xor (a && A) (b && B))
 unfolding value
 all-or-none n m x r p a b =
-    ap₂ xor (products p) (ap₂ xor (singles a (x .ofA)) (ap₂ xor (singles b (x .ofB)) (fold-unit xor false false-xor (λ k. false) (upTo m) (λ k. refl)) ∙ xor-false (b && operand n (x .ofB))))
+    ap₂ xor (products p)
+    (ap₂ xor (singles a (x .ofA))
+    (ap₂ xor (singles b (x .ofB)) (fold-unit xor false false-xor (λ k. false) (upTo m) (λ k. refl)) ∙ xor-false (b && operand n (x .ofB))))
   where
     row : (i : ℕ) → parity (λ j. x .ofA i && x .ofB j) (upTo n) ≡ (x .ofA i && operand n (x .ofB))
     row i =
         fold-cong xor false (λ j. x .ofA i && x .ofB j) (λ j. x .ofB j && x .ofA i) (upTo n) (λ j. and-comm (x .ofA i) (x .ofB j))
         ∙ common (x .ofA i) (x .ofB) (upTo n) ∙ and-comm (operand n (x .ofB)) (x .ofA i)
 
-    products : (p : Bool) → parity (λ i. parity (λ j. p && (x .ofA i && x .ofB j)) (upTo n)) (upTo n) ≡ (p && (operand n (x .ofA) && operand n (x .ofB)))
+    products : (p : Bool)
+        → parity (λ i. parity (λ j. p && (x .ofA i && x .ofB j)) (upTo n)) (upTo n) ≡ (p && (operand n (x .ofA) && operand n (x .ofB)))
     products true =
         fold-cong xor false (λ i. parity (λ j. x .ofA i && x .ofB j) (upTo n)) (λ i. x .ofA i && operand n (x .ofB)) (upTo n) row
         ∙ common (operand n (x .ofB)) (x .ofA) (upTo n)
-    products false = fold-unit xor false false-xor (λ i. parity (λ j. false) (upTo n)) (upTo n) (λ i. fold-unit xor false false-xor (λ j. false) (upTo n) (λ j. refl))
+    products false =
+        fold-unit xor false false-xor (λ i. parity (λ j. false) (upTo n)) (upTo n)
+        (λ i. fold-unit xor false false-xor (λ j. false) (upTo n) (λ j. refl))
 
     singles : (a : Bool) (f : ℕ → Bool) → parity (λ i. a && f i) (upTo n) ≡ (a && operand n f)
     singles true f = refl
@@ -53,7 +58,8 @@ function-value function n m x r =
     B : Bool
     B = operand n (x .ofB)
 
-    go : (p q : Bool) → eqb function 1 ≡ p → eqb function 2 ≡ q → xor (p && (A && B)) (xor (not p && A) (q && B)) ≡ cond p (A && B) (cond q (xor A B) A)
+    go : (p q : Bool) → eqb function 1 ≡ p → eqb function 2 ≡ q
+        → xor (p && (A && B)) (xor (not p && A) (q && B)) ≡ cond p (A && B) (cond q (xor A B) A)
     go true true e f = let one : _≡_ {A = ℕ} 1 2 = sym (eqb-true function 1 e) ∙ eqb-true function 2 f in absurd (omega (arith, one))
     go true false e f = ap (xor (A && B)) (false-xor false) ∙ xor-false (A && B)
     go false true e f = false-xor (xor A B)
@@ -61,9 +67,11 @@ function-value function n m x r =
 
 -- the value of what the test looks at
 difference : (function n m : ℕ) (table : List Wire) (x : Input) (r : ℕ → Bool)
-    → value n m x r (plus (total (outers table)) (functionTerms function)) ≡ xor (parity (λ w. value n m x r (w .terms)) (outers table)) (functionOf function n x)
+    → value n m x r (plus (total (outers table)) (functionTerms function))
+    ≡ xor (parity (λ w. value n m x r (w .terms)) (outers table)) (functionOf function n x)
 difference function n m table x r =
-    value-plus n m x r (total (outers table)) (functionTerms function) ∙ ap₂ xor (value-total n m x r (outers table)) (function-value function n m x r)
+    value-plus n m x r (total (outers table)) (functionTerms function)
+    ∙ ap₂ xor (value-total n m x r (outers table)) (function-value function n m x r)
 
 pub computes-exactly : (function n m : ℕ) (table : List Wire) → (computes function n m table ≡ true) ↔ AddUpTo function n m table
 unfolding computes

@@ -45,7 +45,9 @@ module _ (N M n m : ℕ) where
       let y = or-none (p || a) b (x .0) in
       let z = or-none p a (y .0) in record {
         noProduct = λ i j c d h. unset (t .product i j) (leb n i || leb n j)
-            (never N j (λ j. t .product i j && (leb n i || leb n j)) (never N i (λ i. some (λ j. t .product i j && (leb n i || leb n j)) (upTo N)) (z .0) c) d) (either i j h);
+            (never N j (λ j. t .product i j && (leb n i || leb n j))
+            (never N i (λ i. some (λ j. t .product i j && (leb n i || leb n j)) (upTo N)) (z .0) c) d)
+            (either i j h);
         noA = λ i c h. unset (t .shareA i) (leb n i) (never N i (λ i. t .shareA i && leb n i) (z .1) c) (le-leb n i h);
         noB = λ j c h. unset (t .shareB j) (leb n j) (never N j (λ j. t .shareB j && leb n j) (y .1) c) (le-leb n j h);
         noMask = λ i c h. unset (t .mask i) (leb m i) (never M i (λ i. t .mask i && leb m i) (x .1) c) (le-leb m i h);
@@ -101,7 +103,8 @@ module _ (N M n m : ℕ) (small : n ≤ N) (few : m ≤ M) where
       beyond-none : (i : ℕ) → n ≤ i → i < N → dependsA n t i ≡ false
       beyond-none i l c =
           ap₂ (λ (a b : Bool). a || b)
-          (fold-below _||_ false n (t .product i) (λ j. false) (λ j d. h .noProduct i j c (le-trans d small) (inl l)) ∙ fold-unit _||_ false (λ x. refl) (λ j. false) (upTo n) (λ j. refl))
+          (fold-below _||_ false n (t .product i) (λ j. false) (λ j d. h .noProduct i j c (le-trans d small) (inl l))
+          ∙ fold-unit _||_ false (λ x. refl) (λ j. false) (upTo n) (λ j. refl))
           (h .noA i c l)
 
   pub countB-narrow : (t : Terms) → Within N M n m t → countB N t ≡ countB n t
@@ -131,7 +134,9 @@ module _ (N M n m : ℕ) (small : n ≤ N) (few : m ≤ M) where
       }))
       (λ e. let b = blank-bits n m t e in
       bits-blank N M t (record {
-        noProduct = λ i j c d. either (t .product i j) n i (λ x. either (t .product i j) n j (λ y. b .noProduct i j x y) (λ y. w .noProduct i j c d (inr y))) (λ x. w .noProduct i j c d (inl x));
+        noProduct =
+            λ i j c d. either (t .product i j) n i (λ x. either (t .product i j) n j (λ y. b .noProduct i j x y) (λ y. w .noProduct i j c d (inr y)))
+            (λ x. w .noProduct i j c d (inl x));
         noShareA = λ i c. either (t .shareA i) n i (λ x. b .noShareA i x) (λ x. w .noA i c x);
         noShareB = λ j c. either (t .shareB j) n j (λ x. b .noShareB j x) (λ x. w .noB j c x);
         noMask = λ k c. either (t .mask k) m k (λ x. b .noMask k x) (λ x. w .noMask k c x);
@@ -150,7 +155,9 @@ empty-breaks-nothing notion n m =
     ap (λ (b : Bool). not (masked m none) && b) (ap₂ (λ (x y : ℕ). ltb 0 x || ltb 0 y) (nothing n) (nothing n)) ∙ last (masked m none)
   where
     nothing : (n : ℕ) → countA n none ≡ 0
-    nothing n = fold-unit _+_ 0 zero-add (λ i. oneIf (some (λ j. false) (upTo n) || false)) (upTo n) (λ i. ap (λ (b : Bool). oneIf (b || false)) (fold-unit _||_ false (λ x. refl) (λ j. false) (upTo n) (λ j. refl)))
+    nothing n =
+        fold-unit _+_ 0 zero-add (λ i. oneIf (some (λ j. false) (upTo n) || false)) (upTo n)
+        (λ i. ap (λ (b : Bool). oneIf (b || false)) (fold-unit _||_ false (λ x. refl) (λ j. false) (upTo n) (λ j. refl)))
 
     last : (b : Bool) → (not b && false) ≡ false
     last true = refl

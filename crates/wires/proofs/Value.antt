@@ -2,7 +2,7 @@
 --     terms-ext                      terms are equal when all their bits are
 --     plus-none, none-plus, plus-comm, plus-assoc    laws of the addition of terms
 --     value-none, value-plus         the value of no terms; the value of a sum is the sum of the values
---     value-total                    the sum of a list of wires has the sum of their values as its value
+--     value-total, sum-of-values     the sum of a list of wires has the sum of their values as its value
 --     value-swap                     with operands exchanged in terms and input the value is the same
 --     value-below                    terms with the same bits for the n shares and m masks have the same value
 --     value-agree                    inputs that agree on the shares on which terms depend give the same value
@@ -13,7 +13,7 @@ use mathlib.Core.List.{List}
 use Rattle.basics.specs.Folds.{parity, some, upTo}
 use Rattle.basics.proofs.Tests.{or-left, or-right, xor-false, false-xor, xor-comm, xor-assoc, xor-two, and-xor}
 use Rattle.basics.proofs.Folds.{fold-cong, fold-hom, fold-unit, fold-both, fold-exchange, fold-below, some-at}
-use Rattle.wires.specs.Wires.{Terms, Wire, Input, value, none, plus, total, swap, swapInput, dependsA, dependsB}
+use Rattle.wires.specs.Wires.{Terms, Wire, Input, value, none, plus, total, SumOfValues, swap, swapInput, dependsA, dependsB}
 
 pub terms-ext : (t u : Terms) → ((i j : ℕ) → t .product i j ≡ u .product i j) → ((i : ℕ) → t .shareA i ≡ u .shareA i)
     → ((j : ℕ) → t .shareB j ≡ u .shareB j) → ((k : ℕ) → t .mask k ≡ u .mask k) → t ≡ u
@@ -21,11 +21,13 @@ terms-ext t u p a b m = λ d. record { product = λ i j. p i j d; shareA = λ i.
 
 pub plus-none : (t : Terms) → plus t none ≡ t
 plus-none t =
-    terms-ext (plus t none) t (λ i j. xor-false (t .product i j)) (λ i. xor-false (t .shareA i)) (λ j. xor-false (t .shareB j)) (λ k. xor-false (t .mask k))
+    terms-ext (plus t none) t (λ i j. xor-false (t .product i j)) (λ i. xor-false (t .shareA i)) (λ j. xor-false (t .shareB j))
+    (λ k. xor-false (t .mask k))
 
 pub none-plus : (t : Terms) → plus none t ≡ t
 none-plus t =
-    terms-ext (plus none t) t (λ i j. false-xor (t .product i j)) (λ i. false-xor (t .shareA i)) (λ j. false-xor (t .shareB j)) (λ k. false-xor (t .mask k))
+    terms-ext (plus none t) t (λ i j. false-xor (t .product i j)) (λ i. false-xor (t .shareA i)) (λ j. false-xor (t .shareB j))
+    (λ k. false-xor (t .mask k))
 
 pub plus-comm : (t u : Terms) → plus t u ≡ plus u t
 plus-comm t u =
@@ -52,7 +54,8 @@ parity-select f g c l =
     ∙ parity-both (λ x. f x && c x) (λ x. g x && c x) l
 
 -- sums of four parts are added part by part
-pub four-parts : (p q a b c d k l : Bool) → xor (xor p q) (xor (xor a b) (xor (xor c d) (xor k l))) ≡ xor (xor p (xor a (xor c k))) (xor q (xor b (xor d l)))
+pub four-parts : (p q a b c d k l : Bool)
+    → xor (xor p q) (xor (xor a b) (xor (xor c d) (xor k l))) ≡ xor (xor p (xor a (xor c k))) (xor q (xor b (xor d l)))
 four-parts p q a b c d k l =
     ap (λ (z : Bool). xor (xor p q) (xor (xor a b) z)) (xor-two c d k l)
     ∙ ap (xor (xor p q)) (xor-two a b (xor c k) (xor d l))
@@ -63,7 +66,8 @@ module _ (n m : ℕ) (x : Input) (r : ℕ → Bool) where
   unfolding value
   value-none =
       ap₂ xor (parity-none (λ i. parity (λ j. false) (upTo n)) (upTo n) (λ i. parity-none (λ j. false) (upTo n) (λ j. refl)))
-      (ap₂ xor (parity-none (λ i. false) (upTo n) (λ i. refl)) (ap₂ xor (parity-none (λ i. false) (upTo n) (λ i. refl)) (parity-none (λ i. false) (upTo m) (λ i. refl))))
+      (ap₂ xor (parity-none (λ i. false) (upTo n) (λ i. refl))
+      (ap₂ xor (parity-none (λ i. false) (upTo n) (λ i. refl)) (parity-none (λ i. false) (upTo m) (λ i. refl))))
       ∙ ap (xor false) (ap (xor false) (false-xor false) ∙ false-xor false) ∙ false-xor false
 
   pub value-plus : (t u : Terms) → value n m x r (plus t u) ≡ xor (value n m x r t) (value n m x r u)
@@ -71,12 +75,15 @@ module _ (n m : ℕ) (x : Input) (r : ℕ → Bool) where
   value-plus t u =
       ap₂ xor
       (fold-cong xor false (λ i. parity (λ j. xor (t .product i j) (u .product i j) && (x .ofA i && x .ofB j)) (upTo n))
-      (λ i. xor (parity (λ j. t .product i j && (x .ofA i && x .ofB j)) (upTo n)) (parity (λ j. u .product i j && (x .ofA i && x .ofB j)) (upTo n))) (upTo n)
+      (λ i. xor (parity (λ j. t .product i j && (x .ofA i && x .ofB j)) (upTo n)) (parity (λ j. u .product i j && (x .ofA i && x .ofB j)) (upTo n)))
+      (upTo n)
       (λ i. parity-select (t .product i) (u .product i) (λ j. x .ofA i && x .ofB j) (upTo n))
-      ∙ parity-both (λ i. parity (λ j. t .product i j && (x .ofA i && x .ofB j)) (upTo n)) (λ i. parity (λ j. u .product i j && (x .ofA i && x .ofB j)) (upTo n)) (upTo n))
+      ∙ parity-both (λ i. parity (λ j. t .product i j && (x .ofA i && x .ofB j)) (upTo n))
+      (λ i. parity (λ j. u .product i j && (x .ofA i && x .ofB j)) (upTo n)) (upTo n))
       (ap₂ xor (parity-select (t .shareA) (u .shareA) (x .ofA) (upTo n))
       (ap₂ xor (parity-select (t .shareB) (u .shareB) (x .ofB) (upTo n)) (parity-select (t .mask) (u .mask) r (upTo m))))
-      ∙ four-parts (parity (λ i. parity (λ j. t .product i j && (x .ofA i && x .ofB j)) (upTo n)) (upTo n)) (parity (λ i. parity (λ j. u .product i j && (x .ofA i && x .ofB j)) (upTo n)) (upTo n))
+      ∙ four-parts (parity (λ i. parity (λ j. t .product i j && (x .ofA i && x .ofB j)) (upTo n)) (upTo n))
+      (parity (λ i. parity (λ j. u .product i j && (x .ofA i && x .ofB j)) (upTo n)) (upTo n))
       (parity (λ i. t .shareA i && x .ofA i) (upTo n)) (parity (λ i. u .shareA i && x .ofA i) (upTo n))
       (parity (λ j. t .shareB j && x .ofB j) (upTo n)) (parity (λ j. u .shareB j && x .ofB j) (upTo n))
       (parity (λ k. t .mask k && r k) (upTo m)) (parity (λ k. u .mask k && r k) (upTo m))
@@ -89,9 +96,11 @@ module _ (n m : ℕ) (x : Input) (r : ℕ → Bool) where
   unfolding value
   value-below t u p a b k =
       ap₂ xor
-      (fold-below xor false n (λ i. parity (λ j. t .product i j && (x .ofA i && x .ofB j)) (upTo n)) (λ i. parity (λ j. u .product i j && (x .ofA i && x .ofB j)) (upTo n))
+      (fold-below xor false n (λ i. parity (λ j. t .product i j && (x .ofA i && x .ofB j)) (upTo n))
+      (λ i. parity (λ j. u .product i j && (x .ofA i && x .ofB j)) (upTo n))
       (λ i c. selected n (t .product i) (u .product i) (λ j. x .ofA i && x .ofB j) (λ j d. p i j c d)))
-      (ap₂ xor (selected n (t .shareA) (u .shareA) (x .ofA) a) (ap₂ xor (selected n (t .shareB) (u .shareB) (x .ofB) b) (selected m (t .mask) (u .mask) r k)))
+      (ap₂ xor (selected n (t .shareA) (u .shareA) (x .ofA) a)
+      (ap₂ xor (selected n (t .shareB) (u .shareB) (x .ofB) b) (selected m (t .mask) (u .mask) r k)))
     where
       selected : (n : ℕ) (f g c : ℕ → Bool) → ((i : ℕ) → i < n → f i ≡ g i) → parity (λ i. f i && c i) (upTo n) ≡ parity (λ i. g i && c i) (upTo n)
       selected n f g c h = fold-below xor false n (λ i. f i && c i) (λ i. g i && c i) (λ i b. ap (λ (z : Bool). z && c i) (h i b))
@@ -104,10 +113,14 @@ module _ (n m : ℕ) (x : Input) (r : ℕ → Bool) where
       let pm = parity (λ k. t .mask k && r k) (upTo m) in
       ap₂ xor
       (fold-exchange xor false false-xor xor-comm xor-assoc (λ i j. t .product j i && (x .ofB i && x .ofA j)) (upTo n) (upTo n)
-      ∙ fold-cong xor false (λ j. parity (λ i. t .product j i && (x .ofB i && x .ofA j)) (upTo n)) (λ i. parity (λ j. t .product i j && (x .ofA i && x .ofB j)) (upTo n)) (upTo n)
+      ∙ fold-cong xor false (λ j. parity (λ i. t .product j i && (x .ofB i && x .ofA j)) (upTo n))
+      (λ i. parity (λ j. t .product i j && (x .ofA i && x .ofB j)) (upTo n)) (upTo n)
       (λ i. fold-cong xor false (λ j. t .product i j && (x .ofB j && x .ofA i)) (λ j. t .product i j && (x .ofA i && x .ofB j)) (upTo n)
       (λ j. ap (λ (z : Bool). t .product i j && z) (and-comm (x .ofB j) (x .ofA i)))))
       (sym (xor-assoc pb pa pm) ∙ ap (λ (z : Bool). xor z pm) (xor-comm pb pa) ∙ xor-assoc pa pb pm)
+
+pub sum-of-values : (t : Terms) (s : List Wire) → t ≡ total s → SumOfValues t s
+sum-of-values t s e n m x r = ap (value n m x r) e ∙ value-total n m x r s
 
 module _ (n m : ℕ) (x y : Input) (r : ℕ → Bool) (t : Terms)
     (agreeA : (i : ℕ) → i < n → dependsA n t i ≡ true → x .ofA i ≡ y .ofA i)
@@ -121,7 +134,8 @@ module _ (n m : ℕ) (x y : Input) (r : ℕ → Bool) (t : Terms)
   unfolding value
   value-agree =
       ap₂ xor
-      (fold-below xor false n (λ i. parity (λ j. t .product i j && (x .ofA i && x .ofB j)) (upTo n)) (λ i. parity (λ j. t .product i j && (y .ofA i && y .ofB j)) (upTo n))
+      (fold-below xor false n (λ i. parity (λ j. t .product i j && (x .ofA i && x .ofB j)) (upTo n))
+      (λ i. parity (λ j. t .product i j && (y .ofA i && y .ofB j)) (upTo n))
       (λ i a. fold-below xor false n (λ j. t .product i j && (x .ofA i && x .ofB j)) (λ j. t .product i j && (y .ofA i && y .ofB j))
       (λ j b. taken (t .product i j) (x .ofA i && x .ofB j) (y .ofA i && y .ofB j)
       (λ p. ap₂ (λ (u v : Bool). u && v) (agreeA i a (or-left (some (t .product i) (upTo n)) (t .shareA i) (some-at n j (t .product i) b p)))

@@ -5,6 +5,7 @@
 --     Input                    a bit for each share of a and of b
 --     value n m x r t          the value of terms under input x and mask setting r, for n shares and m masks
 --     none, plus, total        no terms; the terms of two records, of all wires of a list, added bit by bit without carry
+--     SumOfValues              the value of terms is the sum of the values of wires, whatever the input and the mask setting
 --     swap, swapInput          terms and input with the two operands exchanged
 --     flipA, flipB             the input with one share of a, of b, changed
 --     dependsA, dependsB       whether terms depend on a share
@@ -14,6 +15,7 @@
 --     breaks                   whether the set breaks the notion
 --     beyond                   whether a bit is set for a share or mask that is none of those given
 use Prim.Native.Nat.{ℕ}
+use mathlib.Core.Path.{_≡_}
 use mathlib.Core.Bool.{Bool, true, false, _&&_, _||_, xor, not}
 use mathlib.Core.List.{List}
 use lib.Dec.{ltb, leb, eqb}
@@ -57,6 +59,9 @@ plus t u = record {
 
 abbrev pub total : List Wire → Terms
 total = fold plus none (λ w. w .terms)
+
+abbrev pub SumOfValues : Terms → List Wire → Type 0
+SumOfValues t s = (n m : ℕ) (x : Input) (r : ℕ → Bool) → value n m x r t ≡ parity (λ w. value n m x r (w .terms)) s
 
 abbrev pub swap : Terms → Terms
 swap t = record { product = λ i j. t .product j i; shareA = t .shareB; shareB = t .shareA; mask = t .mask }

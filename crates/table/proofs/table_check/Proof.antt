@@ -1,13 +1,15 @@
+-- `table::table_check` meets its contract: each refusal where its test is the first to fail.
+-- Assumes nothing.
 use Prim.Native.Nat.{_%_}
 use native.Mathlib.Omega.{arith}
 use mathlib.Core.Path.{_≡_, sym, _∙_}
 use mathlib.Core.Bool.{true, false}
 use borrow.Author.Tests.{lt-ltb, le-ltb, eq-eqb, ne-eqb, not-true, not-false}
+use borrow.Author.Needs.{needs}
 use lib.ListN.{length}
 use Rattle.basics.specs.Folds.{some, upTo}
-use Rattle.table.specs.Layout.{recordAt, wireCount}
 use Rattle.table.specs.Answers.{wrongRecord}
-use borrow.Author.Needs.{needs}
+use Rattle.table.specs.Layout.{recordAt, wireCount}
 use Rattle.table.proofs.table_check.Statement.{statement}
 use Rattle.table.proofs.table_check.Tie as tie
 
@@ -18,22 +20,65 @@ returns-2 : tie.Need-returns-2
 returns-2 c = let a = c .before .before .before .args in simp (le-ltb (a .shares) 2 (omega arith), lt-ltb 8 (a .shares) (omega arith))
 
 returns-3 : tie.Need-returns-3
-returns-3 c = let a = c .before .before .before .before .args in simp (le-ltb (a .shares) 2 (omega arith), le-ltb 8 (a .shares) (omega arith), lt-ltb 64 (a .masks) (omega arith))
+returns-3 c =
+    let a = c .before .before .before .before .args in
+    simp (le-ltb (a .shares) 2 (omega arith), le-ltb 8 (a .shares) (omega arith), lt-ltb 64 (a .masks) (omega arith))
 
 returns-4 : tie.Need-returns-4
-returns-4 c = let a = c .before .before .before .before .before .args in simp (le-ltb (a .shares) 2 (omega arith), le-ltb 8 (a .shares) (omega arith), le-ltb 64 (a .masks) (omega arith), ne-eqb (length (a .table .now) % 24) 0 (c .if4 .taken))
+returns-4 c =
+    let a = c .before .before .before .before .before .args in
+    simp (
+      le-ltb (a .shares) 2 (omega arith),
+      le-ltb 8 (a .shares) (omega arith),
+      le-ltb 64 (a .masks) (omega arith),
+      ne-eqb
+          (length (a .table .now) % 24) 0 (c .if4 .taken),
+    )
 
 returns-5 : tie.Need-returns-5
-returns-5 c = let a = c .before .before .before .before .before .before .args in simp (le-ltb (a .shares) 2 (omega arith), le-ltb 8 (a .shares) (omega arith), le-ltb 64 (a .masks) (omega arith), eq-eqb (length (a .table .now) % 24) 0 (omega arith), lt-ltb 12288 (length (a .table .now)) (omega arith))
+returns-5 c =
+    let a = c .before .before .before .before .before .before .args in
+    simp (
+      le-ltb (a .shares) 2 (omega arith),
+      le-ltb 8 (a .shares) (omega arith),
+      le-ltb 64 (a .masks) (omega arith),
+      eq-eqb
+          (length (a .table .now) % 24) 0 (omega arith),
+      lt-ltb 12288 (length (a .table .now)) (omega arith),
+    )
 
 records-fit-requires : tie.Need-records-fit-requires
 records-fit-requires c κs = search needs
 
 returns-6 : tie.Need-returns-6
-returns-6 c = let a = c .before .before .before .before .before .before .before .before .args in let w : some (λ w. wrongRecord (a .shares) (a .masks) (recordAt (a .table .now) w)) (upTo (wireCount (a .table .now))) ≡ true = not-false _ (sym (c .before .records-fit .ensures) ∙ not-true _ (c .if6 .taken)) in simp (le-ltb (a .shares) 2 (omega arith), le-ltb 8 (a .shares) (omega arith), le-ltb 64 (a .masks) (omega arith), eq-eqb (length (a .table .now) % 24) 0 (omega arith), le-ltb 12288 (length (a .table .now)) (omega arith), w)
+returns-6 c =
+    let a = c .before .before .before .before .before .before .before .before .args in
+    let w : some (λ w. wrongRecord (a .shares) (a .masks) (recordAt (a .table .now) w)) (upTo (wireCount (a .table .now))) ≡ true =
+    not-false _ (sym (c .before .records-fit .ensures) ∙ not-true _ (c .if6 .taken)) in
+    simp (
+      le-ltb (a .shares) 2 (omega arith),
+      le-ltb 8 (a .shares) (omega arith),
+      le-ltb 64 (a .masks) (omega arith),
+      eq-eqb
+          (length (a .table .now) % 24) 0 (omega arith),
+      le-ltb 12288 (length (a .table .now)) (omega arith),
+      w,
+    )
 
 returns-7 : tie.Need-returns-7
-returns-7 c = let a = c .before .before .before .before .before .before .before .before .args in let w : some (λ w. wrongRecord (a .shares) (a .masks) (recordAt (a .table .now) w)) (upTo (wireCount (a .table .now))) ≡ false = not-true _ (sym (c .before .records-fit .ensures) ∙ not-false _ (c .if6 .left)) in simp (le-ltb (a .shares) 2 (omega arith), le-ltb 8 (a .shares) (omega arith), le-ltb 64 (a .masks) (omega arith), eq-eqb (length (a .table .now) % 24) 0 (omega arith), le-ltb 12288 (length (a .table .now)) (omega arith), w)
+returns-7 c =
+    let a = c .before .before .before .before .before .before .before .before .args in
+    let w : some (λ w. wrongRecord (a .shares) (a .masks) (recordAt (a .table .now) w)) (upTo (wireCount (a .table .now))) ≡ false =
+    not-true _ (sym (c .before .records-fit .ensures) ∙ not-false _ (c .if6 .left)) in
+    simp (
+      le-ltb (a .shares) 2 (omega arith),
+      le-ltb 8 (a .shares) (omega arith),
+      le-ltb 64 (a .masks) (omega arith),
+      eq-eqb
+          (length (a .table .now) % 24) 0 (omega arith),
+      le-ltb 12288 (length (a .table .now)) (omega arith),
+      w,
+    )
 
 pub table-check-spec : {M : Type 1} → statement M
 table-check-spec =

@@ -1,5 +1,7 @@
-use Rattle.table.proofs.Named.{product-record, sum-record, copy-record}
+-- `table::functions::function_record` meets its contract: both tables of the code hold what one test over each computes.
+-- Assumes nothing.
 use borrow.Author.Needs.{needs}
+use Rattle.table.proofs.Named.{product-record, sum-record, copy-record}
 use Rattle.table.proofs.functions.function_record.Statement.{statement}
 use Rattle.table.proofs.functions.function_record.Tie as tie
 

@@ -1,5 +1,7 @@
-use Rattle.table.proofs.Fields.{four-bytes}
+-- `table::layout::half_word` meets its contract: four bytes below 256, each times its power of 256, are the little-endian number.
+-- Assumes nothing.
 use borrow.Author.Needs.{needs}
+use Rattle.table.proofs.Fields.{four-bytes}
 use Rattle.table.proofs.layout.half_word.Statement.{statement}
 use Rattle.table.proofs.layout.half_word.Tie as tie
 
@@ -55,7 +57,11 @@ add-result-2 : tie.Need-add-result-2
 add-result-2 c = search needs
 
 returns : tie.Need-returns
-returns c = four-bytes _ _ _ _ _ _ (c .before .before .before .before .before .before .before .before .before .pre) (c .before .before .before .before .before .before .wide .ensures .0) (c .before .before .before .before .wide2 .ensures .0) (c .before .before .wide3 .ensures .0) (c .wide4 .ensures .0) (c .before .before .before .before .before .before .wide .ensures .1) (c .before .before .before .before .wide2 .ensures .1) (c .before .before .wide3 .ensures .1) (c .wide4 .ensures .1)
+returns c =
+    four-bytes _ _ _ _ _ _ (c .before .before .before .before .before .before .before .before .before .pre)
+    (c .before .before .before .before .before .before .wide .ensures .0) (c .before .before .before .before .wide2 .ensures .0)
+    (c .before .before .wide3 .ensures .0) (c .wide4 .ensures .0) (c .before .before .before .before .before .before .wide .ensures .1)
+    (c .before .before .before .before .wide2 .ensures .1) (c .before .before .wide3 .ensures .1) (c .wide4 .ensures .1)
 
 pub half-word-spec : {M : Type 1} → statement M
 half-word-spec =

@@ -1,5 +1,7 @@
-use Rattle.table.proofs.Fields.{eight-bytes}
+-- `table::layout::word` meets its contract: the number of eight bytes is that of the first four and 2^32 times that of the next.
+-- Assumes nothing.
 use borrow.Author.Needs.{needs}
+use Rattle.table.proofs.Fields.{eight-bytes}
 use Rattle.table.proofs.layout.word.Statement.{statement}
 use Rattle.table.proofs.layout.word.Tie as tie
 

@@ -1,3 +1,5 @@
+-- `table::sums::added` meets its contract: words added without carry are added bit by bit.
+-- Assumes nothing.
 use Rattle.table.proofs.Adding.{words-added}
 use Rattle.table.proofs.sums.added.Statement.{statement}
 use Rattle.table.proofs.sums.added.Tie as tie

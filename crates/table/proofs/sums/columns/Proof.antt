@@ -1,6 +1,8 @@
+-- `table::sums::columns` meets its contract: eight bits 8 apart are a column.
+-- Assumes nothing.
 use native.Mathlib.Nat.{mod-lt, zero-lt-suc}
-use Rattle.table.proofs.Shares.{columns-bits}
 use borrow.Author.Needs.{needs}
+use Rattle.table.proofs.Shares.{columns-bits}
 use Rattle.table.proofs.sums.columns.Statement.{statement}
 use Rattle.table.proofs.sums.columns.Tie as tie
 

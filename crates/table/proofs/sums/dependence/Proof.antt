@@ -1,9 +1,11 @@
+-- `table::sums::dependence` meets its contract: the ones of a word are the shares that it tells.
+-- Assumes nothing.
 use native.Mathlib.Omega.{arith}
+use borrow.Author.Needs.{needs}
 use lib.Count.{ones-le}
 use Rattle.wires.specs.Wires.{swap}
 use Rattle.table.specs.Layout.{termsOf}
 use Rattle.table.proofs.Shares.{seen-ones}
-use borrow.Author.Needs.{needs}
 use Rattle.table.proofs.sums.dependence.Statement.{statement}
 use Rattle.table.proofs.sums.dependence.Tie as tie
 
@@ -17,7 +19,12 @@ cast-t6 : tie.Need-cast-t6
 cast-t6 c = let few = ones-le 8 _ (c .before .before .shares-seen .ensures .1 .0) in omega (arith, few)
 
 returns : tie.Need-returns
-returns c = let sum = c .before .before .before .args .sum in (seen-ones (termsOf sum) _ (c .before .before .shares-seen .ensures .0 .0) (c .before .before .shares-seen .ensures .0 .1), seen-ones (swap (termsOf sum)) _ (c .before .before .shares-seen .ensures .1 .0) (c .before .before .shares-seen .ensures .1 .1))
+returns c =
+    let sum = c .before .before .before .args .sum in (
+      seen-ones (termsOf sum) _ (c .before .before .shares-seen .ensures .0 .0) (c .before .before .shares-seen .ensures .0 .1),
+      seen-ones
+          (swap (termsOf sum)) _ (c .before .before .shares-seen .ensures .1 .0) (c .before .before .shares-seen .ensures .1 .1),
+    )
 
 pub dependence-spec : {M : Type 1} → statement M
 dependence-spec = tie.close (tie.spec shares-seen-requires cast-t4 cast-t6 returns)

@@ -1,5 +1,7 @@
-use Rattle.table.proofs.Shares.{gather-bits}
+-- `table::sums::gather` meets its contract: each union with itself shifted doubles the bits that are looked at.
+-- Assumes nothing.
 use borrow.Author.Needs.{needs}
+use Rattle.table.proofs.Shares.{gather-bits}
 use Rattle.table.proofs.sums.gather.Statement.{statement}
 use Rattle.table.proofs.sums.gather.Tie as tie
 

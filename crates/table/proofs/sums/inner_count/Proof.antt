@@ -1,15 +1,17 @@
-use borrow.Author.Tests.{not-true, not-false}
-use Rattle.wires.specs.Wires.{allowed}
-use Rattle.wires.specs.declared.Notion.the-variants.{Sni}
-use Rattle.table.specs.Layout.{wireAt}
-use Rattle.table.proofs.Adding.{set-inside, inner-counted, inner-passed, whole-count}
-use native.Mathlib.Omega.{arith}
+-- `table::sums::inner_count` meets its contract: after i wires the count is that of the inner ones among them.
+-- Assumes nothing.
 use Prim.Native.Nat.{_-_, _≤_, zero-le}
-use mathlib.Core.Path.{_≡_, refl, sym, _∙_}
-use mathlib.Core.Logic.{⊎-elim}
+use native.Mathlib.Omega.{arith}
 use mathlib.Core.List.{map}
+use mathlib.Core.Logic.{⊎-elim}
+use mathlib.Core.Path.{_≡_, refl, sym, _∙_}
+use borrow.Author.Tests.{not-true, not-false}
 use borrow.Author.Needs.{needs}
 use lib.ListN.{length, take}
+use Rattle.wires.specs.declared.Notion.the-variants.{Sni}
+use Rattle.wires.specs.Wires.{allowed}
+use Rattle.table.specs.Layout.{wireAt}
+use Rattle.table.proofs.Adding.{set-inside, inner-counted, inner-passed, whole-count}
 use Rattle.table.proofs.sums.inner_count.Statement.{statement}
 use Rattle.table.proofs.sums.inner_count.Tie as tie
 
@@ -44,7 +46,19 @@ loop-less : tie.Need-loop-less Inv-loop μ-loop
 loop-less c = search needs
 
 loop-again : tie.Need-loop-again Inv-loop μ-loop
-loop-again c = (omega (arith, c .before .before .before .loop-test .taken), ⊎-elim (λ w. omega (arith, w .1, c .before .before .before .before .loop .inv .1)) (λ w. omega (arith, w .1, c .before .before .before .before .loop .inv .1)) (c .if1 .came), ⊎-elim (λ w. w .1 ∙ inner-counted _ _ _ _ (c .before .before .before .loop-test .taken) (sym (c .before .is-outer .ensures) ∙ not-true _ (w .0 .taken)) (c .before .before .before .before .loop .inv .2)) (λ w. w .1 ∙ inner-passed _ _ _ _ (c .before .before .before .loop-test .taken) (sym (c .before .is-outer .ensures) ∙ not-false _ (w .0 .left)) (c .before .before .before .before .loop .inv .2)) (c .if1 .came))
+loop-again c = (
+  omega (arith, c .before .before .before .loop-test .taken),
+  ⊎-elim (λ w. omega (arith, w .1, c .before .before .before .before .loop .inv .1))
+      (λ w. omega (arith, w .1, c .before .before .before .before .loop .inv .1)) (c .if1 .came),
+  ⊎-elim
+      (λ w. w .1
+      ∙ inner-counted _ _ _ _ (c .before .before .before .loop-test .taken) (sym (c .before .is-outer .ensures) ∙ not-true _ (w .0 .taken))
+      (c .before .before .before .before .loop .inv .2))
+      (λ w. w .1
+      ∙ inner-passed _ _ _ _ (c .before .before .before .loop-test .taken) (sym (c .before .is-outer .ensures) ∙ not-false _ (w .0 .left))
+      (c .before .before .before .before .loop .inv .2))
+      (c .if1 .came),
+)
 
 returns : tie.Need-returns Inv-loop μ-loop
 returns c = whole-count _ _ _ _ (c .loop-test .left) (c .before .loop .inv .2)

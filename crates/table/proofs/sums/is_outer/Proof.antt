@@ -1,8 +1,10 @@
+-- `table::sums::is_outer` meets its contract: the byte read is byte 18 of the wire's record.
+-- Assumes nothing.
 use Prim.Native.Nat.{ℕ}
 use mathlib.Core.Path.{ap}
+use borrow.Author.Needs.{needs}
 use lib.Dec.{eqb}
 use Rattle.table.proofs.Adding.{outer-byte}
-use borrow.Author.Needs.{needs}
 use Rattle.table.proofs.sums.is_outer.Statement.{statement}
 use Rattle.table.proofs.sums.is_outer.Tie as tie
 

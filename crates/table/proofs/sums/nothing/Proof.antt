@@ -1,3 +1,5 @@
+-- `table::sums::nothing` meets its contract: 0 has no bit.
+-- Assumes nothing.
 use Rattle.table.proofs.Adding.{words-zero}
 use Rattle.table.proofs.sums.nothing.Statement.{statement}
 use Rattle.table.proofs.sums.nothing.Tie as tie

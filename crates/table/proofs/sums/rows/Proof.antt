@@ -1,6 +1,8 @@
+-- `table::sums::rows` meets its contract: of the lowest bits of the rows, taken 7 apart, the i-th alone reaches place i.
+-- Assumes nothing.
 use native.Mathlib.Nat.{mod-lt, zero-lt-suc}
-use Rattle.table.proofs.Shares.{rows-bits}
 use borrow.Author.Needs.{needs}
+use Rattle.table.proofs.Shares.{rows-bits}
 use Rattle.table.proofs.sums.rows.Statement.{statement}
 use Rattle.table.proofs.sums.rows.Tie as tie
 

@@ -1,14 +1,16 @@
-use Rattle.basics.specs.Folds.{upTo}
-use Rattle.wires.specs.Wires.{plus, total}
-use Rattle.wires.specs.Function.{outers}
-use Rattle.table.specs.Layout.{wireAt, termsOf}
-use Rattle.table.proofs.Adding.{outers-taken, outers-left}
-use native.Mathlib.Omega.{arith}
+-- `table::sums::sum_of_outers` meets its contract: after a wire the sum is that of the outer ones up to it.
+-- Assumes nothing.
 use Prim.Native.Nat.{ℕ, _-_, _≤_, zero-le}
+use native.Mathlib.Omega.{arith}
+use mathlib.Core.List.{map}
 use mathlib.Core.Path.{_≡_, sym, _∙_, ap}
 use mathlib.Core.Logic.{⊎-elim}
-use mathlib.Core.List.{map}
 use borrow.Author.Needs.{needs}
+use Rattle.basics.specs.Folds.{upTo}
+use Rattle.wires.specs.Function.{outers}
+use Rattle.wires.specs.Wires.{plus, total}
+use Rattle.table.specs.Layout.{wireAt, termsOf}
+use Rattle.table.proofs.Adding.{outers-taken, outers-left, whole-table}
 use Rattle.table.proofs.sums.sum_of_outers.Statement.{statement}
 use Rattle.table.proofs.sums.sum_of_outers.Tie as tie
 
@@ -41,10 +43,17 @@ loop-less : tie.Need-loop-less Inv-loop μ-loop
 loop-less c = search needs
 
 loop-again : tie.Need-loop-again Inv-loop μ-loop
-loop-again c = (omega (arith, c .before .before .loop-test .taken), ⊎-elim (λ w. ap termsOf (w .3) ∙ w .2 .ensures ∙ ap (plus (termsOf (c .before .before .before .loop .sum))) (w .1 .ensures) ∙ outers-taken _ _ _ (sym (c .before .is-outer .ensures) ∙ w .0 .taken) (c .before .before .before .loop .inv .1)) (λ w. ap termsOf (w .1) ∙ outers-left _ _ _ (sym (c .before .is-outer .ensures) ∙ w .0 .left) (c .before .before .before .loop .inv .1)) (c .if1 .came))
+loop-again c = (
+  omega (arith, c .before .before .loop-test .taken),
+  ⊎-elim
+      (λ w. ap termsOf (w .3) ∙ w .2 .ensures ∙ ap (plus (termsOf (c .before .before .before .loop .sum))) (w .1 .ensures)
+      ∙ outers-taken _ _ _ (sym (c .before .is-outer .ensures) ∙ w .0 .taken) (c .before .before .before .loop .inv .1))
+      (λ w. ap termsOf (w .1) ∙ outers-left _ _ _ (sym (c .before .is-outer .ensures) ∙ w .0 .left) (c .before .before .before .loop .inv .1))
+      (c .if1 .came),
+)
 
 returns : tie.Need-returns Inv-loop μ-loop
-returns c = c .before .loop .inv .1 ∙ ap (λ (n : ℕ). total (outers (map (wireAt (c .before .before .before .before .args .table .now)) (upTo n)))) (omega (arith, c .loop-test .left, c .before .loop .inv .0))
+returns c = whole-table _ _ _ (omega (arith, c .loop-test .left, c .before .loop .inv .0)) (c .before .loop .inv .1)
 
 pub sum-of-outers-spec : {M : Type 1} → statement M
 sum-of-outers-spec =

@@ -1,7 +1,9 @@
-use native.Mathlib.Omega.{arith}
+-- `table::sums::sum_of_set` meets its contract: after i wires the sum is that of the first i.
+-- Assumes nothing.
 use Prim.Native.Nat.{_-_, _≤_, zero-le}
-use mathlib.Core.Path.{_≡_, _∙_, ap}
+use native.Mathlib.Omega.{arith}
 use mathlib.Core.List.{map}
+use mathlib.Core.Path.{_≡_, _∙_, ap}
 use borrow.Author.Needs.{needs}
 use lib.ListN.{length, take}
 use Rattle.wires.specs.Wires.{plus, total}
@@ -44,7 +46,12 @@ loop-less : tie.Need-loop-less Inv-loop μ-loop
 loop-less c = search needs
 
 loop-again : tie.Need-loop-again Inv-loop μ-loop
-loop-again c = (omega (arith, c .before .before .before .loop-test .taken), c .added .ensures ∙ ap (plus (termsOf (c .before .before .before .before .loop .sum))) (c .before .wire-record .ensures) ∙ total-more _ _ _ _ (c .before .before .before .loop-test .taken) (c .before .before .before .before .loop .inv .1))
+loop-again c = (
+  omega (arith, c .before .before .before .loop-test .taken),
+  c .added .ensures
+      ∙ ap (plus (termsOf (c .before .before .before .before .loop .sum))) (c .before .wire-record .ensures)
+      ∙ total-more _ _ _ _ (c .before .before .before .loop-test .taken) (c .before .before .before .before .loop .inv .1),
+)
 
 returns : tie.Need-returns Inv-loop μ-loop
 returns c = whole-set _ _ _ _ (c .loop-test .left) (c .before .loop .inv .1)

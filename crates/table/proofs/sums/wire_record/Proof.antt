@@ -1,6 +1,8 @@
+-- `table::sums::wire_record` meets its contract: the words read are the fields of the wire's record.
+-- Assumes nothing.
 use mathlib.Core.Path.{refl}
-use Rattle.table.proofs.Adding.{words-of-record}
 use borrow.Author.Needs.{needs}
+use Rattle.table.proofs.Adding.{words-of-record}
 use Rattle.table.proofs.sums.wire_record.Statement.{statement}
 use Rattle.table.proofs.sums.wire_record.Tie as tie
 
@@ -29,7 +31,9 @@ shared-slice-read-t12 : tie.Need-shared-slice-read-t12
 shared-slice-read-t12 c = search needs
 
 returns : tie.Need-returns
-returns c = words-of-record _ _ _ _ _ _ (c .before .before .before .before .before .pre) (c .before .before .before .word .ensures) (c .before .before .word2 .ensures) refl refl
+returns c =
+    words-of-record _ _ _ _ _ _ (c .before .before .before .before .before .pre) (c .before .before .before .word .ensures)
+    (c .before .before .word2 .ensures) refl refl
 
 pub wire-record-spec : {M : Type 1} → statement M
 wire-record-spec =
