@@ -26,7 +26,8 @@ use Rattle.wires.specs.Function.{functionTerms, outers, blank, computes}
 use Rattle.wires.proofs.Dependence.{blank-bits, bits-blank}
 use Rattle.wires.proofs.Function.{computes-exactly}
 use Rattle.wires.proofs.Narrow.{Within, AllWithin, within, within-plus, within-total, breaks-narrow, blank-narrow}
-use Rattle.table.specs.Layout.{field, recordAt, wireAt, wireCount, wires, inside, FirstShares}
+use Rattle.records.specs.Layout.{field, recordAt, wireAt, wireCount, wires, inside}
+use Rattle.table.specs.Cut.{FirstShares}
 use Rattle.table.specs.Answers.{wrongShares, wrongLength, wrongRecord, tested, tableCheck, functionCheck, FunctionMeans}
 
 pub record Accepted (table : List ℕ) (shares masks : ℕ) : Type 0 where

@@ -18,9 +18,10 @@ use Rattle.basics.proofs.Tests.{and-left, and-right, and-both, bool-ext, xor-sa
 use Rattle.basics.proofs.Folds.{every-at}
 use Rattle.wires.specs.Function.{functionTerms, blank}
 use Rattle.wires.proofs.Dependence.{NoBits, blank-bits, bits-blank}
-use Rattle.table.specs.Words.{bit}
-use Rattle.table.specs.Layout.{decodeTerms, FirstShares}
-use Rattle.table.proofs.Words.{bit-zero, no-bit}
+use Rattle.records.specs.Words.{bit}
+use Rattle.records.specs.Layout.{decodeTerms}
+use Rattle.table.specs.Cut.{FirstShares}
+use Rattle.records.proofs.Words.{bit-zero, no-bit}
 
 abbrev products : List ℕ
 products = 0 ∷ 0x01 ∷ 0x0303 ∷ 0x070707 ∷ 0x0f0f0f0f ∷ 0x1f1f1f1f1f ∷ 0x3f3f3f3f3f3f ∷ 0x7f7f7f7f7f7f7f ∷ 0xffffffffffffffff ∷ []

@@ -14,11 +14,11 @@ use lib.ListN.{getD}
 use Rattle.basics.specs.Folds.{some, upTo}
 use Rattle.basics.proofs.Folds.{fold-cong, fold-hom, fold-unit, fold-both, fold-exchange, fold-below, fold-narrow}
 use Rattle.wires.specs.Wires.{Terms, swap, dependsA, dependsB, beyond}
-use Rattle.table.specs.Words.{bit}
-use Rattle.table.specs.Layout.{field, decodeTerms, recordAt, wireAt, wireCount}
+use Rattle.records.specs.Words.{bit}
+use Rattle.records.specs.Layout.{field, decodeTerms, recordAt, wireAt, wireCount}
 use Rattle.table.specs.Answers.{wrongRecord}
-use Rattle.table.proofs.Words.{bit-high}
-use Rattle.table.proofs.Adding.{outer-byte}
+use Rattle.records.proofs.Words.{bit-high}
+use Rattle.records.proofs.Adding.{outer-byte}
 
 pub limit-past : (w s : ℕ) → 64 ≤ s → true ≡ not (some (λ k. bit w k && leb s k) (upTo 64))
 limit-past w s h =

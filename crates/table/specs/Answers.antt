@@ -16,7 +16,7 @@ use Rattle.basics.specs.Folds.{some, oneIf, upTo}
 use Rattle.basics.specs.Told.{Told, values, refusal}
 use Rattle.wires.specs.Wires.{beyond}
 use Rattle.wires.specs.Function.{AddUpTo, computes}
-use Rattle.table.specs.Layout.{recordBytes, field, decode, recordAt, wireCount, wires}
+use Rattle.records.specs.Layout.{recordBytes, field, decode, recordAt, wireCount, wires}
 use Rattle.table.specs.declared.Refusal.{Refusal}
 use Rattle.table.specs.declared.Refusal.the-variants.{SharesOrMasks, TableLength, RecordOutOfRange, NoSuchFunction}
 use Rattle.table.specs.declared.TableAnswer.{TableAnswer}

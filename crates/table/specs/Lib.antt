@@ -1,7 +1,5 @@
 -- The definitions that the promises of `table` cite.
---     Words     the bits of a number, little-endian numbers
---     Layout    how a wire stands in a table
 --     Answers   each answer in the numbers of the scope, and what each entry answers
-pub mod Words
-pub mod Layout
+--     Cut       terms cut to the first shares of each operand
 pub mod Answers
+pub mod Cut

@@ -2,8 +2,9 @@
 ghost use mathlib.Core.Path.{_≡_};
 ghost use Prim.Native.Nat.{_≤_};
 ghost use Rattle.wires.specs.Function.{functionTerms, blank};
-ghost use Rattle.table.specs.Layout.{termsOf, FirstShares};
-use super::sums::Sum;
+ghost use Rattle.records.specs.Layout.{termsOf};
+ghost use Rattle.table.specs.Cut.{FirstShares};
+use records::sums::Sum;
 
 // All products of the first n shares of a and the first n of b, at place n.
 const FIRST_PRODUCTS: [u64; 9] = [

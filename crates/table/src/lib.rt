@@ -4,10 +4,10 @@
 ghost use mathlib.Core.Path.{_≡_};
 ghost use Prim.Native.Nat.{_<_};
 ghost use Rattle.table.specs.Answers.{refusalNumber, tableTold, tableCheck, functionTold, functionCheck, FunctionMeans};
+use records::layout::RECORD_BYTES;
+use records::sums;
 
 pub mod functions;
-pub mod layout;
-pub mod sums;
 pub mod tests;
 
 pub const MIN_SHARES: usize = 2;
@@ -64,7 +64,7 @@ pub fn table_check(table: &[u8], shares: usize, masks: usize) -> TableAnswer
     if MAX_MASKS < masks {
         return TableAnswer::Refused(Refusal::SharesOrMasks);
     }
-    if table.len() % layout::RECORD_BYTES != 0 {
+    if table.len() % RECORD_BYTES != 0 {
         return TableAnswer::Refused(Refusal::TableLength);
     }
     if MAX_TABLE_BYTES < table.len() {

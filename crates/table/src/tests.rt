@@ -4,13 +4,13 @@ ghost use mathlib.Core.Bool.{not, _&&_};
 ghost use Prim.Native.Nat.{_<_};
 ghost use lib.Dec.{leb};
 ghost use Rattle.basics.specs.Folds.{some, upTo};
-ghost use Rattle.table.specs.Words.{bit};
-ghost use Rattle.table.specs.Layout.{wireCount, recordAt};
+ghost use Rattle.records.specs.Words.{bit};
+ghost use Rattle.records.specs.Layout.{wireCount, recordAt};
 ghost use Rattle.table.specs.Answers.{wrongRecord};
-use super::layout::OUTER_AT;
-use super::layout::RECORD_BYTES;
-use super::sums::shares_seen;
-use super::sums::wire_record;
+use records::layout::OUTER_AT;
+use records::layout::RECORD_BYTES;
+use records::sums::shares_seen;
+use records::sums::wire_record;
 
 // Whether a word has no bit from `limit` on.
 fn ends_below(word: u64, limit: usize) -> bool

@@ -3,3 +3,4 @@ pub mod Value
 pub mod Dependence
 pub mod Function
 pub mod Narrow
+pub mod Examples

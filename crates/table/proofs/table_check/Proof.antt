@@ -9,7 +9,7 @@ use borrow.Author.Needs.{needs}
 use lib.ListN.{length}
 use Rattle.basics.specs.Folds.{some, upTo}
 use Rattle.table.specs.Answers.{wrongRecord}
-use Rattle.table.specs.Layout.{recordAt, wireCount}
+use Rattle.records.specs.Layout.{recordAt, wireCount}
 use Rattle.table.proofs.table_check.Statement.{statement}
 use Rattle.table.proofs.table_check.Tie as tie
 

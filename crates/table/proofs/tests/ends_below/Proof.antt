@@ -1,7 +1,7 @@
 -- `table::tests::ends_below` meets its contract: a word shifted down by the limit is 0 where no bit stands from there on.
 -- Assumes nothing.
 use borrow.Author.Needs.{needs}
-use Rattle.table.proofs.Words.{none-from}
+use Rattle.records.proofs.Words.{none-from}
 use Rattle.table.proofs.Records.{limit-past}
 use Rattle.table.proofs.tests.ends_below.Statement.{statement}
 use Rattle.table.proofs.tests.ends_below.Tie as tie

@@ -9,7 +9,7 @@ use borrow.Author.Needs.{needs}
 use Rattle.basics.specs.Folds.{some, upTo}
 use Rattle.basics.proofs.Folds.{some-at, none-more}
 use Rattle.table.specs.Answers.{wrongRecord}
-use Rattle.table.specs.Layout.{recordAt}
+use Rattle.records.specs.Layout.{recordAt}
 use Rattle.table.proofs.tests.records_fit.Statement.{statement}
 use Rattle.table.proofs.tests.records_fit.Tie as tie
 

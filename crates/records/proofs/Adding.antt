@@ -1,0 +1,132 @@
+-- Sums of records: what the code's words stand for.
+--     words-zero           words that are all 0 stand for no terms
+--     words-added          words added without carry stand for the sum
+--     words-of-record      the words that the code reads are the record's
+--     outer-byte           the byte that tells an outer wire
+--     set-inside           every wire of a set is one of the table's
+--     total-more           the sum with one wire more of a set
+--     inner-counted, inner-passed   the inner wires with one wire more of a set, an inner or an outer one
+--     whole-set, whole-count, whole-table     all wires of the set, of the table
+--     all-pay              under NI every wire pays
+--     outers-taken, outers-left     the sum of the outer wires with one wire more of the table, an outer or an inner one
+use Prim.Native.Nat.{ℕ, zero, suc, _+_, _*_, _≤_, _<_}
+use native.Mathlib.Nat.{zero-add, add-zero, add-assoc}
+use native.Mathlib.Omega.{arith}
+use mathlib.Core.Path.{_≡_, refl, sym, _∙_, ap, ap₂}
+use mathlib.Core.Bool.{Bool, true, false, cond, not}
+use mathlib.Core.List.{List, [], _∷_, _++_, map, map-append}
+use lib.Bits.{bitXor}
+use borrow.Author.Tests.{ltb-true}
+use lib.Dec.{ltb}
+use lib.ListN.{length, take, drop, getD}
+use lib.Seq.{take-all}
+use Rattle.basics.specs.Folds.{oneIf, upTo}
+use Rattle.basics.proofs.Folds.{fold-append, fold-more, up-to-last, keep-append, every-place}
+use Rattle.wires.specs.declared.Notion.the-variants.{Ni, Sni}
+use Rattle.wires.specs.Wires.{Terms, Wire, none, plus, total, SumOfValues, allowed}
+use Rattle.wires.specs.Function.{outers}
+use Rattle.wires.proofs.Value.{terms-ext, plus-none, none-plus, plus-assoc, sum-of-values}
+use Rattle.records.specs.Words.{number}
+use Rattle.records.specs.Layout.{decodeTerms, field, recordAt, wireAt, wireCount, wires, inside}
+use Rattle.records.proofs.Words.{bit-zero, bit-xor}
+use Rattle.records.proofs.Fields.{field-at, byte-at, record-inside}
+
+pub words-zero : decodeTerms 0 0 0 0 ≡ none
+words-zero = terms-ext (decodeTerms 0 0 0 0) none (λ i j. bit-zero (8 * i + j)) bit-zero bit-zero bit-zero
+
+pub words-added : (p q k l a c b d : ℕ)
+    → decodeTerms (bitXor p q) (bitXor k l) (bitXor a c) (bitXor b d) ≡ plus (decodeTerms p k a b) (decodeTerms q l c d)
+words-added p q k l a c b d =
+    terms-ext (decodeTerms (bitXor p q) (bitXor k l) (bitXor a c) (bitXor b d)) (plus (decodeTerms p k a b) (decodeTerms q l c d))
+    (λ i j. bit-xor p q (8 * i + j)) (bit-xor a c) (bit-xor b d) (bit-xor k l)
+
+pub words-of-record : (table : List ℕ) (wire p k a b : ℕ) → wire < wireCount table → p ≡ number (take 8 (drop (24 * wire) table))
+    → k ≡ number (take 8 (drop (24 * wire + 8) table)) → a ≡ getD table (24 * wire + 16) 0 → b ≡ getD table (24 * wire + 17) 0
+    → decodeTerms p k a b ≡ wireAt table wire .terms
+words-of-record table wire p k a b h ep ek ea eb =
+    let r = record-inside table wire h in
+    let zero : 24 * wire ≡ 24 * wire + 0 = omega arith in
+    let f : p ≡ field 0 8 (recordAt table wire) =
+    ep ∙ ap (λ (x : ℕ). number (take 8 (drop x table))) zero ∙ sym (field-at table wire 0 8 (omega arith)) in
+    let g : k ≡ field 8 8 (recordAt table wire) = ek ∙ sym (field-at table wire 8 8 (omega arith)) in
+    let c : a ≡ field 16 1 (recordAt table wire) =
+    ea ∙ sym (byte-at table (24 * wire + 16) (omega (arith, r))) ∙ sym (field-at table wire 16 1 (omega arith)) in
+    let d : b ≡ field 17 1 (recordAt table wire) =
+    eb ∙ sym (byte-at table (24 * wire + 17) (omega (arith, r))) ∙ sym (field-at table wire 17 1 (omega arith)) in
+    ap₂ (λ (x y : ℕ). decodeTerms x y a b) f g
+    ∙ ap₂ (λ (x y : ℕ). decodeTerms (field 0 8 (recordAt table wire)) (field 8 8 (recordAt table wire)) x y) c d
+
+pub outer-byte : (table : List ℕ) (wire : ℕ) → wire < wireCount table → getD table (24 * wire + 18) 0 ≡ field 18 1 (recordAt table wire)
+outer-byte table wire h =
+    let r = record-inside table wire h in sym (field-at table wire 18 1 (omega arith) ∙ byte-at table (24 * wire + 18) (omega (arith, r)))
+
+-- ---- one wire more
+
+pub set-inside : (table set : List ℕ) (i : ℕ) → inside table set ≡ true → i < length set → getD set i 0 < wireCount table
+unfolding inside
+set-inside table set i e h = ltb-true (getD set i 0) (wireCount table) (every-place (λ w. ltb w (wireCount table)) set i 0 e h)
+
+pub total-more : (table set : List ℕ) (i : ℕ) (t : Terms) → i < length set → t ≡ total (map (wireAt table) (take i set))
+    → plus t (wireAt table (getD set i 0) .terms) ≡ total (map (wireAt table) (take (i + 1) set))
+total-more table set i t h e =
+    ap (λ (u : Terms). plus u (wireAt table (getD set i 0) .terms)) e
+    ∙ sym (fold-more plus none none-plus plus-none plus-assoc (λ w. w .terms) (wireAt table) set i 0 h)
+
+inner-more : (table set : List ℕ) (i k : ℕ) → i < length set → k ≡ allowed Sni (map (wireAt table) (take i set))
+    → k + oneIf (not (wireAt table (getD set i 0) .outer)) ≡ allowed Sni (map (wireAt table) (take (i + 1) set))
+inner-more table set i k h e =
+    ap (λ (m : ℕ). m + oneIf (not (wireAt table (getD set i 0) .outer))) e
+    ∙ sym (fold-more _+_ 0 zero-add add-zero add-assoc (λ w. oneIf (not (w .outer))) (wireAt table) set i 0 h)
+
+pub inner-counted : (table set : List ℕ) (i k : ℕ) → i < length set → wireAt table (getD set i 0) .outer ≡ false
+    → k ≡ allowed Sni (map (wireAt table) (take i set))
+    → k + 1 ≡ allowed Sni (map (wireAt table) (take (i + 1) set))
+inner-counted table set i k h o e = ap (λ (b : Bool). k + oneIf (not b)) (sym o) ∙ inner-more table set i k h e
+
+pub inner-passed : (table set : List ℕ) (i k : ℕ) → i < length set → wireAt table (getD set i 0) .outer ≡ true
+    → k ≡ allowed Sni (map (wireAt table) (take i set))
+    → k ≡ allowed Sni (map (wireAt table) (take (i + 1) set))
+inner-passed table set i k h o e = sym (add-zero k) ∙ ap (λ (b : Bool). k + oneIf (not b)) (sym o) ∙ inner-more table set i k h e
+
+-- the outer wires among the first n + 1
+outers-last : (table : List ℕ) (n : ℕ)
+    → outers (map (wireAt table) (upTo (n + 1))) ≡ outers (map (wireAt table) (upTo n)) ++ cond (wireAt table n .outer) (wireAt table n ∷ []) []
+outers-last table n =
+    let more : n + 1 ≡ suc n = omega arith in
+    ap (λ (k : ℕ). outers (map (wireAt table) (upTo k))) more ∙ ap (λ l. outers (map (wireAt table) l)) (up-to-last n)
+    ∙ ap outers (map-append (wireAt table) (upTo n) (n ∷ [])) ∙ keep-append (λ w. w .outer) (map (wireAt table) (upTo n)) (wireAt table n ∷ [])
+
+total-append : (k l : List Wire) → total (k ++ l) ≡ plus (total k) (total l)
+total-append = fold-append plus none none-plus plus-assoc (λ w. w .terms)
+
+pub outers-taken : (table : List ℕ) (n : ℕ) (t : Terms) → wireAt table n .outer ≡ true → t ≡ total (outers (map (wireAt table) (upTo n)))
+    → plus t (wireAt table n .terms) ≡ total (outers (map (wireAt table) (upTo (n + 1))))
+outers-taken table n t o e =
+    sym (ap total (outers-last table n ∙ ap (λ (b : Bool). outers (map (wireAt table) (upTo n)) ++ cond b (wireAt table n ∷ []) []) o)
+    ∙ total-append (outers (map (wireAt table) (upTo n))) (wireAt table n ∷ []) ∙ ap₂ plus (sym e) (plus-none (wireAt table n .terms)))
+
+pub outers-left : (table : List ℕ) (n : ℕ) (t : Terms) → wireAt table n .outer ≡ false → t ≡ total (outers (map (wireAt table) (upTo n)))
+    → t ≡ total (outers (map (wireAt table) (upTo (n + 1))))
+outers-left table n t o e =
+    sym (ap total (outers-last table n ∙ ap (λ (b : Bool). outers (map (wireAt table) (upTo n)) ++ cond b (wireAt table n ∷ []) []) o)
+    ∙ total-append (outers (map (wireAt table) (upTo n))) [] ∙ plus-none (total (outers (map (wireAt table) (upTo n)))) ∙ sym e)
+
+pub whole-set : (table set : List ℕ) (i : ℕ) (t : Terms) → length set ≤ i → t ≡ total (map (wireAt table) (take i set))
+    → (t ≡ total (map (wireAt table) set)) × SumOfValues t (map (wireAt table) set)
+whole-set table set i t h e =
+    let w : t ≡ total (map (wireAt table) set) = e ∙ ap (λ l. total (map (wireAt table) l)) (take-all i set h) in
+    (w, sum-of-values t (map (wireAt table) set) w)
+
+pub whole-table : (table : List ℕ) (i : ℕ) (t : Terms) → i ≡ wireCount table → t ≡ total (outers (map (wireAt table) (upTo i)))
+    → (t ≡ total (outers (wires table))) × SumOfValues t (outers (wires table))
+whole-table table i t h e =
+    let w : t ≡ total (outers (wires table)) = e ∙ ap (λ (n : ℕ). total (outers (map (wireAt table) (upTo n)))) h in
+    (w, sum-of-values t (outers (wires table)) w)
+
+pub whole-count : (table set : List ℕ) (i k : ℕ) → length set ≤ i → k ≡ allowed Sni (map (wireAt table) (take i set))
+    → k ≡ allowed Sni (map (wireAt table) set)
+whole-count table set i k h e = e ∙ ap (λ l. allowed Sni (map (wireAt table) l)) (take-all i set h)
+
+pub all-pay : (table set : List ℕ) → length set ≡ allowed Ni (map (wireAt table) set)
+all-pay table [] = refl
+all-pay table (x ∷ set) = let more : suc (length set) ≡ 1 + length set = omega arith in more ∙ ap (λ (k : ℕ). 1 + k) (all-pay table set)

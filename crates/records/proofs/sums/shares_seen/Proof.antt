@@ -1,0 +1,37 @@
+-- `records::sums::shares_seen` meets its contract: rows, or columns, united with the single bits; for b with the operands exchanged.
+-- Assumes nothing.
+use mathlib.Core.Path.{refl}
+use borrow.Author.Needs.{needs}
+use lib.Bits.{or-lt}
+use Rattle.wires.specs.Wires.{swap}
+use Rattle.records.specs.Layout.{termsOf}
+use Rattle.records.proofs.Shares.{seen-bits}
+use Rattle.records.proofs.sums.shares_seen.Statement.{statement}
+use Rattle.records.proofs.sums.shares_seen.Tie as tie
+
+rows-requires : tie.Need-rows-requires
+rows-requires c κs = search needs
+
+wide-requires : tie.Need-wide-requires
+wide-requires c κs = search needs
+
+columns-requires : tie.Need-columns-requires
+columns-requires c κs = search needs
+
+wide-requires-2 : tie.Need-wide-requires-2
+wide-requires-2 c κs = search needs
+
+returns : tie.Need-returns
+returns c =
+    let sum = c .before .before .before .before .args .sum in
+    let rows = c .before .before .before .rows .ensures in
+    let a = c .before .before .wide .ensures in
+    let columns = c .before .columns .ensures in
+    let b = c .wide2 .ensures in (
+      (or-lt 8 _ _ (rows .0) (a .1), λ i h. seen-bits (termsOf sum) _ _ _ i (rows .1 i h) (a .0) refl),
+      (or-lt 8 _ _ (columns .0) (b .1), λ j h. seen-bits (swap (termsOf sum)) _ _ _ j (columns .1 j h) (b .0) refl),
+    )
+
+pub shares-seen-spec : {M : Type 1} → statement M
+shares-seen-spec =
+    tie.close (tie.spec rows-requires wide-requires columns-requires wide-requires-2 returns)

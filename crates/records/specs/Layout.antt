@@ -1,0 +1,50 @@
+-- How a wire stands in a table (scope, "Wires"): records of 24 bytes with no header, numbers little-endian. Bytes 19 to 23 (output line,
+-- offset and length in the text) have no part in what a wire is.
+--     field at size r     the number of `size` bytes of a record, from byte `at` on
+--     decode r            the wire that a record's 24 bytes are
+--     recordAt, wireAt    the record of a wire of a table, and the wire
+--     wireCount, wires    how many wires a table has, and the wires in their order
+--     inside              every wire of a set is one of the table's
+--     termsOf             the terms that the code's sum of records stands for
+use Prim.Native.Nat.{ℕ, _+_, _*_, _/_}
+use mathlib.Core.Bool.{Bool}
+use mathlib.Core.List.{List, map}
+use lib.Dec.{eqb, ltb}
+use lib.ListN.{length, take, drop}
+use Rattle.basics.specs.Folds.{every, upTo}
+use Rattle.wires.specs.Wires.{Terms, Wire}
+use Rattle.records.specs.Words.{bit, number}
+use Rattle.records.specs.declared.sums.Sum.{Sum}
+
+abbrev pub recordBytes : ℕ
+recordBytes = 24
+
+abbrev pub field : ℕ → ℕ → List ℕ → ℕ
+field at size r = number (take size (drop at r))
+
+-- bytes 0 to 7, products, bit 8i + j for shares i of a and j of b; bytes 8 to 15, masks, bit k for mask k; byte 16, shares of a; byte 17, shares of b
+abbrev pub decodeTerms : ℕ → ℕ → ℕ → ℕ → Terms
+decodeTerms products masks a b =
+    record { product = λ i j. bit products (8 * i + j); shareA = λ i. bit a i; shareB = λ j. bit b j; mask = λ k. bit masks k }
+
+-- byte 18, 0 inner or 1 outer
+abbrev pub decode : List ℕ → Wire
+decode r = record { terms = decodeTerms (field 0 8 r) (field 8 8 r) (field 16 1 r) (field 17 1 r); outer = eqb (field 18 1 r) 1 }
+
+abbrev pub recordAt : List ℕ → ℕ → List ℕ
+recordAt table wire = take recordBytes (drop (recordBytes * wire) table)
+
+abbrev pub wireAt : List ℕ → ℕ → Wire
+wireAt table wire = decode (recordAt table wire)
+
+abbrev pub wireCount : List ℕ → ℕ
+wireCount table = length table / recordBytes
+
+abbrev pub wires : List ℕ → List Wire
+wires table = map (wireAt table) (upTo (wireCount table))
+
+unfoldable pub inside : List ℕ → List ℕ → Bool
+inside table set = every (λ wire. ltb wire (wireCount table)) set
+
+abbrev pub termsOf : Sum → Terms
+termsOf s = decodeTerms (s .products) (s .masks) (s .«shares_a») (s .«shares_b»)

@@ -1,0 +1,46 @@
+// How a wire stands in a table: a record of 24 bytes, numbers little-endian (scope, "Wires").
+ghost use mathlib.Core.Path.{_≡_};
+ghost use Prim.Native.Nat.{_≤_, _<_, _+_, _^_};
+ghost use lib.ListN.{take, drop};
+ghost use Rattle.records.specs.Words.{number};
+
+pub const RECORD_BYTES: usize = 24;
+
+// The products stand first.
+pub const MASKS_AT: usize = 8;
+
+pub const SHARES_A_AT: usize = 16;
+
+pub const SHARES_B_AT: usize = 17;
+
+pub const OUTER_AT: usize = 18;
+
+pub const LINE_AT: usize = 19;
+
+pub const OFFSET_AT: usize = 20;
+
+pub const LENGTH_AT: usize = 22;
+
+// A byte as a number of 64 bits.
+pub fn wide(byte: u8) -> u64
+    ensures { λ r. ⌜ (r ≡ byte) × (r < 256) ⌝ }
+{
+    byte as u64
+}
+
+// The number of four bytes.
+fn half_word(bytes: &[u8], at: usize) -> u64
+    requires { do ⌜ at + 4 ≤ (← ⟦bytes.len()⟧) ⌝ }
+    ensures { λ r. ⌜ (r ≡ number (take 4 (drop at (now (bytes .entry))))) × (r < 2 ^ 32) ⌝ }
+{
+    let low = wide(bytes[at]) + 256 * wide(bytes[at + 1]);
+    low + 65536 * wide(bytes[at + 2]) + 16777216 * wide(bytes[at + 3])
+}
+
+// The number of eight bytes.
+pub fn word(bytes: &[u8], at: usize) -> u64
+    requires { do ⌜ at + 8 ≤ (← ⟦bytes.len()⟧) ⌝ }
+    ensures { λ r. ⌜ r ≡ number (take 8 (drop at (now (bytes .entry)))) ⌝ }
+{
+    half_word(bytes, at) + 4294967296 * half_word(bytes, at + 4)
+}

@@ -1,0 +1,4 @@
+// How a wire stands in memory, and what is computed of a set of wires: its sum, the shares on which the sum depends, the breaking test.
+// These functions are the inside of the entries above. They ask what the entries have tested.
+pub mod layout;
+pub mod sums;

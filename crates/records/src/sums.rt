@@ -1,0 +1,208 @@
+// The sum of a set's records, the shares on which it depends, and the breaking test (scope, "Breaking sets"). These functions are the
+// inner loop of every search: they ask what `table_check` has tested, and test the masks before they count.
+ghost use mathlib.Core.Path.{_≡_};
+ghost use mathlib.Core.Bool.{true};
+ghost use mathlib.Core.List.{map};
+ghost use Prim.Native.Nat.{ℕ, _≤_, _<_, _+_, _*_};
+ghost use Rattle.basics.specs.Folds.{some, upTo};
+ghost use Rattle.wires.specs.Wires.{none, plus, total, SumOfValues, countA, countB, allowed, breaks, dependsA, dependsB};
+ghost use Rattle.wires.specs.Function.{outers};
+ghost use Rattle.records.specs.Words.{bit};
+ghost use Rattle.records.specs.Layout.{wireAt, wireCount, wires, inside, termsOf};
+use super::layout::MASKS_AT;
+use super::layout::OUTER_AT;
+use super::layout::RECORD_BYTES;
+use super::layout::SHARES_A_AT;
+use super::layout::SHARES_B_AT;
+use super::layout::wide;
+use super::layout::word;
+use wires::Notion;
+
+// Records added bit by bit without carry: what stands in their first 18 bytes.
+pub struct Sum {
+    pub products: u64,
+    pub masks: u64,
+    pub shares_a: u8,
+    pub shares_b: u8,
+}
+
+// The words of the shares on which a sum depends: bit i for share i.
+pub struct ShareWords {
+    pub a: u64,
+    pub b: u64,
+}
+
+// On how many shares of each operand a sum depends.
+pub struct ShareCounts {
+    pub of_a: usize,
+    pub of_b: usize,
+}
+
+// The record of a wire.
+pub fn wire_record(table: &[u8], wire: usize) -> Sum
+    requires { ⌜ wire < wireCount (now table) ⌝ }
+    ensures { λ r. ⌜ termsOf r ≡ wireAt (now (table .entry)) wire .terms ⌝ }
+{
+    let at = RECORD_BYTES * wire;
+    Sum {
+        products: word(table, at),
+        masks: word(table, at + MASKS_AT),
+        shares_a: table[at + SHARES_A_AT],
+        shares_b: table[at + SHARES_B_AT],
+    }
+}
+
+// Whether a wire is an outer one.
+pub fn is_outer(table: &[u8], wire: usize) -> bool
+    requires { ⌜ wire < wireCount (now table) ⌝ }
+    ensures { λ r. ⌜ r ≡ wireAt (now (table .entry)) wire .outer ⌝ }
+{
+    table[RECORD_BYTES * wire + OUTER_AT] == 1
+}
+
+// Two sums added.
+pub fn added(s: Sum, t: Sum) -> Sum
+    ensures { λ r. ⌜ termsOf r ≡ plus (termsOf s) (termsOf t) ⌝ }
+{
+    Sum {
+        products: s.products ^ t.products,
+        masks: s.masks ^ t.masks,
+        shares_a: s.shares_a ^ t.shares_a,
+        shares_b: s.shares_b ^ t.shares_b,
+    }
+}
+
+// The sum of no records.
+fn nothing() -> Sum
+    ensures { λ r. ⌜ termsOf r ≡ none ⌝ }
+{
+    Sum {
+        products: 0,
+        masks: 0,
+        shares_a: 0,
+        shares_b: 0,
+    }
+}
+
+// The records of a set of wires added up.
+pub fn sum_of_set(table: &[u8], set: &[u16]) -> Sum
+    requires { ⌜ inside (now table) (now set) ≡ true ⌝ }
+    ensures { λ r. ⌜ termsOf r ≡ total (map (wireAt (now (table .entry))) (now (set .entry))) ⌝ }
+    ensures { λ r. ⌜ SumOfValues (termsOf r) (map (wireAt (now (table .entry))) (now (set .entry))) ⌝ }
+{
+    let mut sum = nothing();
+    let mut i = 0;
+    while i < set.len() {
+        sum = added(sum, wire_record(table, set[i] as usize));
+        i += 1;
+    }
+    sum
+}
+
+// The records of a table's outer wires added up.
+pub fn sum_of_outers(table: &[u8]) -> Sum
+    ensures { λ r. ⌜ termsOf r ≡ total (outers (wires (now (table .entry)))) ⌝ }
+    ensures { λ r. ⌜ SumOfValues (termsOf r) (outers (wires (now (table .entry)))) ⌝ }
+{
+    let count = table.len() / RECORD_BYTES;
+    let mut sum = nothing();
+    let mut wire = 0;
+    while wire < count {
+        if is_outer(table, wire) {
+            sum = added(sum, wire_record(table, wire));
+        }
+        wire += 1;
+    }
+    sum
+}
+
+// Bit k is set where one of the eight bits k, k + stride, k + 2 stride, .. is.
+fn gather(word: u64, stride: usize) -> u64
+    requires { ⌜ stride ≤ 8 ⌝ }
+    ensures { λ r. ⌜ ((k : ℕ) → bit r k ≡ some (λ j. bit word (stride * j + k)) (upTo 8)) ⌝ }
+{
+    let two = word | word >> stride;
+    let four = two | two >> (2 * stride);
+    four | four >> (4 * stride)
+}
+
+// Bit i is set where row i of the products, which is byte i, is not 0. The rows' lowest bits are 8 apart; 7 brings them side by side.
+fn rows(products: u64) -> u64
+    ensures { λ r. ⌜ (r < 256) × ((i : ℕ) → i < 8 → bit r i ≡ some (λ j. bit products (8 * i + j)) (upTo 8)) ⌝ }
+{
+    let lowest = gather(products, 1) & 0x0101_0101_0101_0101;
+    gather(lowest, 7) % 256
+}
+
+// Bit j is set where column j of the products, bit j of some byte, is not 0.
+fn columns(products: u64) -> u64
+    ensures { λ r. ⌜ (r < 256) × ((j : ℕ) → j < 8 → bit r j ≡ some (λ i. bit products (8 * i + j)) (upTo 8)) ⌝ }
+{
+    gather(products, 8) % 256
+}
+
+// The words of the shares on which a sum depends: a product counts for its row in a and for its column in b.
+pub fn shares_seen(sum: Sum) -> ShareWords
+    ensures { λ r. ⌜ (r .a < 256) × ((i : ℕ) → i < 8 → bit (r .a) i ≡ dependsA 8 (termsOf sum) i) ⌝ }
+    ensures { λ r. ⌜ (r .b < 256) × ((j : ℕ) → j < 8 → bit (r .b) j ≡ dependsB 8 (termsOf sum) j) ⌝ }
+{
+    ShareWords {
+        a: rows(sum.products) | wide(sum.shares_a),
+        b: columns(sum.products) | wide(sum.shares_b),
+    }
+}
+
+// On how many shares of a, and on how many of b, a sum depends.
+pub fn dependence(sum: Sum) -> ShareCounts
+    ensures { λ r. ⌜ (r .«of_a» ≡ countA 8 (termsOf sum)) × (r .«of_b» ≡ countB 8 (termsOf sum)) ⌝ }
+{
+    let words = shares_seen(sum);
+    ShareCounts {
+        of_a: u64::count_ones(words.a) as usize,
+        of_b: u64::count_ones(words.b) as usize,
+    }
+}
+
+// How many inner wires a set has.
+fn inner_count(table: &[u8], set: &[u16]) -> usize
+    requires { ⌜ inside (now table) (now set) ≡ true ⌝ }
+    ensures { λ r. ⌜ r ≡ allowed Notion.Sni (map (wireAt (now (table .entry))) (now (set .entry))) ⌝ }
+{
+    let mut count = 0;
+    let mut i = 0;
+    while i < set.len() {
+        if !is_outer(table, set[i] as usize) {
+            count += 1;
+        }
+        i += 1;
+    }
+    count
+}
+
+// How many wires of a set pay for a share: all of them under NI, the inner ones under SNI.
+fn payers(table: &[u8], notion: Notion, set: &[u16]) -> usize
+    requires { ⌜ inside (now table) (now set) ≡ true ⌝ }
+    ensures { λ r. ⌜ r ≡ allowed notion (map (wireAt (now (table .entry))) (now (set .entry))) ⌝ }
+{
+    match notion {
+        Notion::Ni => set.len(),
+        Notion::Sni => inner_count(table, set),
+    }
+}
+
+// Whether a set of wires breaks a notion. Most sums keep a mask, so the masks come first.
+pub fn set_breaks(table: &[u8], notion: Notion, set: &[u16]) -> bool
+    requires { ⌜ inside (now table) (now set) ≡ true ⌝ }
+    ensures { λ r. ⌜ r ≡ breaks notion 8 64 (map (wireAt (now (table .entry))) (now (set .entry))) ⌝ }
+{
+    let sum = sum_of_set(table, set);
+    if sum.masks != 0 {
+        return false;
+    }
+    let allowed = payers(table, notion, set);
+    let on = dependence(sum);
+    if allowed < on.of_a {
+        return true;
+    }
+    allowed < on.of_b
+}
