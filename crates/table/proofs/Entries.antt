@@ -1,5 +1,6 @@
 -- What the tests of a table give to the operations that come after them, and what the function check tells.
 --     Accepted                     a table, a number of shares and one of masks that pass the tests
+--     records-decide               where the numbers and the length are right, the records decide
 --     accepted, tested-answer      where the tests pass, the operation's own answer stands
 --     tested-refusal               where they do not, their refusal stands
 --     wire-within, set-within, table-within     an accepted record has no bit beyond shares and masks
@@ -7,14 +8,15 @@
 --     function-decided             what the code compares decides the function
 --     function-means               what yes and no say of values follows from the equation
 --     refused-before, function-low, function-high, answered     the entry's answers
-use Prim.Native.Nat.{ℕ, _≤_, _<_}
+use Prim.Native.Nat.{ℕ, _%_, _≤_, _<_}
 use native.Mathlib.Nat.{le-trans}
 use native.Mathlib.Omega.{arith}
 use mathlib.Core.Path.{_≡_, refl, sym, _∙_, ap, ap₂}
 use mathlib.Core.Logic.{_⊎_, inl, inr}
 use mathlib.Core.Bool.{Bool, true, false, cond, not, _&&_, _||_, xor, true≢false, and-false, and-true}
 use mathlib.Core.List.{List, [], _∷_, map}
-use borrow.Author.Tests.{le-leb, lt-leb, ltb-false, le-ltb, lt-ltb, ltb-true}
+use borrow.Author.Tests.{le-leb, lt-leb, ltb-false, le-ltb, lt-ltb, ltb-true, eq-eqb}
+use lib.ListN.{length}
 use lib.Dec.{ltb, leb}
 use Rattle.basics.specs.Folds.{some, every, keep, oneIf, upTo}
 use Rattle.basics.specs.Told.{Told, values, refusal}
@@ -54,6 +56,22 @@ module _ (table : List ℕ) (shares masks : ℕ) where
       go false true c p q r e = absurd (values-refusal [] 12 e)
       go false false true p q r e = absurd (values-refusal [] 13 e)
       go false false false p q r e = record { goodShares = p; goodLength = q; goodRecords = r }
+
+  -- the records alone decide where the numbers and the length are right
+  pub records-decide : (b : Bool) → 2 ≤ shares → shares ≤ 8 → masks ≤ 64 → length table % 24 ≡ 0 → length table ≤ 12288
+      → not b ≡ not (some (λ w. wrongRecord shares masks (recordAt table w)) (upTo (wireCount table)))
+      → cond b (refusal 13) (values []) ≡ tableCheck table shares masks
+  records-decide b low high few whole short e =
+      let found = some (λ w. wrongRecord shares masks (recordAt table w)) (upTo (wireCount table)) in
+      let first : tableCheck table shares masks ≡ cond found (refusal 13) (values []) =
+      simp (le-ltb shares 2 low, le-ltb 8 shares high, le-ltb 64 masks few, eq-eqb (length table % 24) 0 whole, le-ltb 12288 (length table) short) in
+      sym (first ∙ ap (λ (z : Bool). cond z (refusal 13) (values [])) (sym (same-not b found e)))
+    where
+      same-not : (x y : Bool) → not x ≡ not y → x ≡ y
+      same-not true true e = refl
+      same-not true false e = sym e
+      same-not false true e = sym e
+      same-not false false e = refl
 
   pub tested-answer : {A : Type 0} (refuse : ℕ → A) (answer : A) → Accepted table shares masks → tested refuse table shares masks answer ≡ answer
   tested-answer refuse answer h = simp (h .goodShares, h .goodLength, h .goodRecords)

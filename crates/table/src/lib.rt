@@ -7,8 +7,8 @@ ghost use Rattle.table.specs.Answers.{refusalNumber, tableTold, tableChe
 use records::layout::RECORD_BYTES;
 use records::sums;
 
-pub mod functions;
-pub mod tests;
+mod functions;
+mod tests;
 
 pub const MIN_SHARES: usize = 2;
 

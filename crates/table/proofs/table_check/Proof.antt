@@ -2,14 +2,12 @@
 -- Assumes nothing.
 use Prim.Native.Nat.{_%_}
 use native.Mathlib.Omega.{arith}
-use mathlib.Core.Path.{_≡_, sym, _∙_}
+use mathlib.Core.Path.{sym, _∙_}
 use mathlib.Core.Bool.{true, false}
 use borrow.Author.Tests.{lt-ltb, le-ltb, eq-eqb, ne-eqb, not-true, not-false}
 use borrow.Author.Needs.{needs}
 use lib.ListN.{length}
-use Rattle.basics.specs.Folds.{some, upTo}
-use Rattle.table.specs.Answers.{wrongRecord}
-use Rattle.records.specs.Layout.{recordAt, wireCount}
+use Rattle.table.proofs.Entries.{records-decide}
 use Rattle.table.proofs.table_check.Statement.{statement}
 use Rattle.table.proofs.table_check.Tie as tie
 
@@ -53,32 +51,14 @@ records-fit-requires c κs = search needs
 returns-6 : tie.Need-returns-6
 returns-6 c =
     let a = c .before .before .before .before .before .before .before .before .args in
-    let w : some (λ w. wrongRecord (a .shares) (a .masks) (recordAt (a .table .now) w)) (upTo (wireCount (a .table .now))) ≡ true =
-    not-false _ (sym (c .before .records-fit .ensures) ∙ not-true _ (c .if6 .taken)) in
-    simp (
-      le-ltb (a .shares) 2 (omega arith),
-      le-ltb 8 (a .shares) (omega arith),
-      le-ltb 64 (a .masks) (omega arith),
-      eq-eqb
-          (length (a .table .now) % 24) 0 (omega arith),
-      le-ltb 12288 (length (a .table .now)) (omega arith),
-      w,
-    )
+    records-decide (a .table .now) (a .shares) (a .masks) true (omega arith) (omega arith) (omega arith) (omega arith) (omega arith)
+    (sym (not-true _ (c .if6 .taken)) ∙ c .before .records-fit .ensures)
 
 returns-7 : tie.Need-returns-7
 returns-7 c =
     let a = c .before .before .before .before .before .before .before .before .args in
-    let w : some (λ w. wrongRecord (a .shares) (a .masks) (recordAt (a .table .now) w)) (upTo (wireCount (a .table .now))) ≡ false =
-    not-true _ (sym (c .before .records-fit .ensures) ∙ not-false _ (c .if6 .left)) in
-    simp (
-      le-ltb (a .shares) 2 (omega arith),
-      le-ltb 8 (a .shares) (omega arith),
-      le-ltb 64 (a .masks) (omega arith),
-      eq-eqb
-          (length (a .table .now) % 24) 0 (omega arith),
-      le-ltb 12288 (length (a .table .now)) (omega arith),
-      w,
-    )
+    records-decide (a .table .now) (a .shares) (a .masks) false (omega arith) (omega arith) (omega arith) (omega arith) (omega arith)
+    (sym (not-false _ (c .if6 .left)) ∙ c .before .records-fit .ensures)
 
 pub table-check-spec : {M : Type 1} → statement M
 table-check-spec =
