@@ -13,7 +13,7 @@ use Prim.Native.Nat.{ℕ, zero, suc, _+_, _*_, _≤_, _<_}
 use native.Mathlib.Nat.{zero-add, add-zero, add-assoc}
 use native.Mathlib.Omega.{arith}
 use mathlib.Core.Path.{_≡_, refl, sym, _∙_, ap, ap₂}
-use mathlib.Core.Bool.{Bool, true, false, cond, not}
+use mathlib.Core.Bool.{Bool, true, false, cond, not, _&&_, and-false}
 use mathlib.Core.List.{List, [], _∷_, _++_, map, map-append}
 use lib.Bits.{bitXor}
 use borrow.Author.Tests.{ltb-true}
@@ -21,24 +21,25 @@ use lib.Dec.{ltb}
 use lib.ListN.{length, take, drop, getD}
 use lib.Seq.{take-all}
 use Rattle.basics.specs.Folds.{oneIf, upTo}
+use Rattle.basics.proofs.Tests.{xor-and}
 use Rattle.basics.proofs.Folds.{fold-append, fold-more, up-to-last, keep-append, every-place}
 use Rattle.wires.specs.declared.Notion.the-variants.{Ni, Sni}
 use Rattle.wires.specs.Wires.{Terms, Wire, none, plus, total, SumOfValues, allowed}
 use Rattle.wires.specs.Function.{outers}
 use Rattle.wires.proofs.Value.{terms-ext, plus-none, none-plus, plus-assoc, sum-of-values}
-use Rattle.records.specs.Words.{number}
+use Rattle.records.specs.Words.{bit, number}
 use Rattle.records.specs.Layout.{decodeTerms, field, recordAt, wireAt, wireCount, wires, inside}
 use Rattle.records.proofs.Words.{bit-zero, bit-xor}
 use Rattle.records.proofs.Fields.{field-at, byte-at, record-inside}
 
 pub words-zero : decodeTerms 0 0 0 0 ≡ none
-words-zero = terms-ext (decodeTerms 0 0 0 0) none (λ i j. bit-zero (8 * i + j)) bit-zero bit-zero bit-zero
+words-zero = terms-ext (decodeTerms 0 0 0 0) none (λ i j. ap (λ (b : Bool). ltb j 8 && b) (bit-zero (8 * i + j)) ∙ and-false (ltb j 8)) bit-zero bit-zero bit-zero
 
 pub words-added : (p q k l a c b d : ℕ)
     → decodeTerms (bitXor p q) (bitXor k l) (bitXor a c) (bitXor b d) ≡ plus (decodeTerms p k a b) (decodeTerms q l c d)
 words-added p q k l a c b d =
     terms-ext (decodeTerms (bitXor p q) (bitXor k l) (bitXor a c) (bitXor b d)) (plus (decodeTerms p k a b) (decodeTerms q l c d))
-    (λ i j. bit-xor p q (8 * i + j)) (bit-xor a c) (bit-xor b d) (bit-xor k l)
+    (λ i j. ap (λ (b : Bool). ltb j 8 && b) (bit-xor p q (8 * i + j)) ∙ xor-and (ltb j 8) (bit p (8 * i + j)) (bit q (8 * i + j))) (bit-xor a c) (bit-xor b d) (bit-xor k l)
 
 pub words-of-record : (table : List ℕ) (wire p k a b : ℕ) → wire < wireCount table → p ≡ number (take 8 (drop (24 * wire) table))
     → k ≡ number (take 8 (drop (24 * wire + 8) table)) → a ≡ getD table (24 * wire + 16) 0 → b ≡ getD table (24 * wire + 17) 0

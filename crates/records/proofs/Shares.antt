@@ -2,21 +2,23 @@
 --     or-double, gather-bits         a word united with itself shifted, three times: eight bits a stride apart
 --     marks                          of the eight bits 7 apart from place i on, the i-th alone stands at a multiple of 8
 --     rows-bits, columns-bits        the rows and the columns that have a product
+--     within-eight, row-products, column-products     the products of a record, by row and by column
 --     seen-bits, seen-ones           the shares on which a sum depends, and their number
 use Prim.Native.Nat.{ℕ, _+_, _*_, _/_, _%_, _^_, _<_}
 use native.Mathlib.Nat.{mul-add, mul-comm}
 use native.Mathlib.Omega.{arith}
 use mathlib.Core.Path.{_≡_, refl, sym, _∙_, ap, ap₂}
 use mathlib.Core.Bool.{Bool, true, false, cond, not, _&&_, _||_, xor, or-assoc, or-false}
-use borrow.Author.Tests.{not-true}
+use borrow.Author.Tests.{lt-ltb, not-true}
 use lib.Bits.{bitAnd, bitOr}
 use lib.Count.{ones}
-use lib.Dec.{eqb}
+use lib.Dec.{eqb, ltb}
 use Rattle.basics.specs.Folds.{some, every, oneIf, upTo}
 use Rattle.basics.proofs.Tests.{xor-same, and-cond}
 use Rattle.basics.proofs.Folds.{fold-cong, fold-below, fold-pick, fold-split, every-at}
 use Rattle.wires.specs.Wires.{Terms, dependsA, countA}
 use Rattle.records.specs.Words.{bit}
+use Rattle.records.specs.Layout.{decodeTerms}
 use Rattle.records.proofs.Words.{bit-or, bit-and, bit-low, or-fold, ones-count}
 
 -- c bits a stride s apart become 2 c
@@ -68,6 +70,18 @@ rows-bits p g h eg eh i l =
 pub columns-bits : (p g : ℕ) → ((k : ℕ) → bit g k ≡ some (λ i. bit p (8 * i + k)) (upTo 8)) → (j : ℕ) → j < 8
     → bit (g % 256) j ≡ some (λ i. bit p (8 * i + j)) (upTo 8)
 columns-bits p g eg j l = bit-low g 8 j l ∙ eg j
+
+-- a product's column is one of the eight
+pub within-eight : (j : ℕ) (b : Bool) → j < 8 → (ltb j 8 && b) ≡ b
+within-eight j b h = ap (λ (c : Bool). c && b) (lt-ltb j 8 h)
+
+pub row-products : (p m a b i : ℕ) → some (λ j. bit p (8 * i + j)) (upTo 8) ≡ some (decodeTerms p m a b .product i) (upTo 8)
+row-products p m a b i =
+    sym (fold-below _||_ false 8 (λ j. ltb j 8 && bit p (8 * i + j)) (λ j. bit p (8 * i + j)) (λ j h. within-eight j (bit p (8 * i + j)) h))
+
+pub column-products : (p m a b j : ℕ) → j < 8 → some (λ i. bit p (8 * i + j)) (upTo 8) ≡ some (λ i. decodeTerms p m a b .product i j) (upTo 8)
+column-products p m a b j h =
+    sym (fold-cong _||_ false (λ i. ltb j 8 && bit p (8 * i + j)) (λ i. bit p (8 * i + j)) (upTo 8) (λ i. within-eight j (bit p (8 * i + j)) h))
 
 pub seen-bits : (t : Terms) (w v b i : ℕ) → bit w i ≡ some (t .product i) (upTo 8) → v ≡ b → bit b i ≡ t .shareA i
     → bit (bitOr w v) i ≡ dependsA 8 t i

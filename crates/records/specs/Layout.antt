@@ -7,7 +7,7 @@
 --     inside              every wire of a set is one of the table's
 --     termsOf             the terms that the code's sum of records stands for
 use Prim.Native.Nat.{ℕ, _+_, _*_, _/_}
-use mathlib.Core.Bool.{Bool}
+use mathlib.Core.Bool.{Bool, _&&_}
 use mathlib.Core.List.{List, map}
 use lib.Dec.{eqb, ltb}
 use lib.ListN.{length, take, drop}
@@ -25,7 +25,7 @@ field at size r = number (take size (drop at r))
 -- bytes 0 to 7, products, bit 8i + j for shares i of a and j of b; bytes 8 to 15, masks, bit k for mask k; byte 16, shares of a; byte 17, shares of b
 abbrev pub decodeTerms : ℕ → ℕ → ℕ → ℕ → Terms
 decodeTerms products masks a b =
-    record { product = λ i j. bit products (8 * i + j); shareA = λ i. bit a i; shareB = λ j. bit b j; mask = λ k. bit masks k }
+    record { product = λ i j. ltb j 8 && bit products (8 * i + j); shareA = λ i. bit a i; shareB = λ j. bit b j; mask = λ k. bit masks k }
 
 -- byte 18, 0 inner or 1 outer
 abbrev pub decode : List ℕ → Wire

@@ -22,6 +22,7 @@ use Rattle.records.specs.Words.{bit}
 use Rattle.records.specs.Layout.{decodeTerms}
 use Rattle.table.specs.Cut.{FirstShares}
 use Rattle.records.proofs.Words.{bit-zero, no-bit}
+use Rattle.records.proofs.Shares.{within-eight}
 
 abbrev products : List ℕ
 products = 0 ∷ 0x01 ∷ 0x0303 ∷ 0x070707 ∷ 0x0f0f0f0f ∷ 0x1f1f1f1f1f ∷ 0x3f3f3f3f3f3f ∷ 0x7f7f7f7f7f7f7f ∷ 0xffffffffffffffff ∷ []
@@ -53,7 +54,7 @@ module _ (function n : ℕ) (small : n ≤ 8) (x y : Bool) (ex : eqb function 1 
       → ((i : ℕ) → i < 8 → bit a i ≡ (not x && ltb i n))
       → ((j : ℕ) → j < 8 → bit b j ≡ (y && ltb j n)) → FirstShares n (functionTerms function) (decodeTerms p 0 a b)
   terms p a b ep ea eb = record {
-    products = λ i j h k. ep i j h k ∙ ap (λ (z : Bool). z && (ltb i n && ltb j n)) (sym ex);
+    products = λ i j h k. within-eight j (bit p (8 * i + j)) k ∙ ep i j h k ∙ ap (λ (z : Bool). z && (ltb i n && ltb j n)) (sym ex);
     ofA = λ i h. ea i h ∙ ap (λ (z : Bool). not z && ltb i n) (sym ex);
     ofB = λ j h. eb j h ∙ ap (λ (z : Bool). z && ltb j n) (sym ey);
     masks = λ k h. bit-zero k;
@@ -88,7 +89,7 @@ module _ (p m a b : ℕ) (lp : p < 2 ^ 64) (lm : m < 2 ^ 64) (la : a < 2 ^ 8) (l
           let three = and-left (eqb m 0 && eqb p 0 && eqb a 0) (eqb b 0) e in
           let two = and-left (eqb m 0 && eqb p 0) (eqb a 0) three in
           bits-blank 8 64 (decodeTerms p m a b) (record {
-            noProduct = λ i j k l. of-zero p (8 * i + j) (eqb-true p 0 (and-right (eqb m 0) (eqb p 0) two));
+            noProduct = λ i j k l. within-eight j (bit p (8 * i + j)) l ∙ of-zero p (8 * i + j) (eqb-true p 0 (and-right (eqb m 0) (eqb p 0) two));
             noShareA = λ i k. of-zero a i (eqb-true a 0 (and-right (eqb m 0 && eqb p 0) (eqb a 0) three));
             noShareB = λ j k. of-zero b j (eqb-true b 0 (and-right (eqb m 0 && eqb p 0 && eqb a 0) (eqb b 0) e));
             noMask = λ i k. of-zero m i (eqb-true m 0 (and-left (eqb m 0) (eqb p 0) two));
@@ -99,7 +100,7 @@ module _ (p m a b : ℕ) (lp : p < 2 ^ 64) (lm : m < 2 ^ 64) (la : a < 2 ^ 8) (l
       placed q h n =
           let e : 8 * (q / 8) + q % 8 ≡ q = omega arith in
           let r : q / 8 < 8 = omega arith in
-          ap (bit p) (sym e) ∙ n .noProduct (q / 8) (q % 8) r (mod-lt q (zero-lt-suc 7))
+          ap (bit p) (sym e) ∙ sym (within-eight (q % 8) (bit p (8 * (q / 8) + q % 8)) (mod-lt q (zero-lt-suc 7))) ∙ n .noProduct (q / 8) (q % 8) r (mod-lt q (zero-lt-suc 7))
 
       back : blank 8 64 (decodeTerms p m a b) ≡ true → (eqb m 0 && eqb p 0 && eqb a 0 && eqb b 0) ≡ true
       back e =

@@ -2,6 +2,7 @@
 --     rate                the bit by which the value changes with share i of a
 --     value-flip          the value of the input with that share changed
 --     seen                where terms depend on share i of a, some input makes the rate 1
+--     depends-seen        where terms depend on share i of a, one input shows it whatever the masks are
 --     depends-exactly     terms depend on share i of a exactly when two inputs that differ only there give them different values
 --     depends-exactly-b   the same for share j of b
 --     zero-blank          terms whose value is 0 everywhere have no bit set
@@ -27,11 +28,11 @@ rate n x t i = xor (parity (λ j. t .product i j && x .ofB j) (upTo n)) (t .shar
 pub parity-pick : (n k : ℕ) (f : ℕ → Bool) → k < n → parity (λ i. cond (eqb i k) (f i) false) (upTo n) ≡ f k
 parity-pick = fold-pick xor false false-xor xor-false
 
-parity-one : (n k : ℕ) (f : ℕ → Bool) → k < n → parity (λ i. f i && eqb i k) (upTo n) ≡ f k
+pub parity-one : (n k : ℕ) (f : ℕ → Bool) → k < n → parity (λ i. f i && eqb i k) (upTo n) ≡ f k
 parity-one n k f h =
     fold-cong xor false (λ i. f i && eqb i k) (λ i. cond (eqb i k) (f i) false) (upTo n) (λ i. and-cond (f i) (eqb i k)) ∙ parity-pick n k f h
 
-parity-never : {A : Type 0} (f : A → Bool) (l : List A) → parity (λ x. f x && false) l ≡ false
+pub parity-never : {A : Type 0} (f : A → Bool) (l : List A) → parity (λ x. f x && false) l ≡ false
 parity-never f l = fold-unit xor false false-xor (λ x. f x && false) l (λ x. and-false (f x))
 
 module _ (n m i : ℕ) (below : i < n) (x : Input) (r : ℕ → Bool) (t : Terms) where
@@ -106,15 +107,17 @@ unfolding xor
 changed true e = true≢false e
 changed false e = false≢true e
 
-pub depends-exactly : (n m i : ℕ) (t : Terms) → i < n
-    → (dependsA n t i ≡ true) ↔ ((x : Input) × ((r : ℕ → Bool) → value n m x r t ≡ value n m (flipA i x) r t → ⊥))
-depends-exactly n m i t h = (there, back)
-  where
-    there : dependsA n t i ≡ true → (x : Input) × ((r : ℕ → Bool) → value n m x r t ≡ value n m (flipA i x) r t → ⊥)
-    there d =
-        let w = seen n i t d in
-        (w .0, λ r e. changed (value n m (w .0) r t) (e ∙ value-flip n m i h (w .0) r t ∙ ap (xor (value n m (w .0) r t)) (w .1)))
+-- one input shows the dependence whatever the masks are
+pub depends-seen : (n m i : ℕ) (t : Terms) → i < n → dependsA n t i ≡ true
+    → (x : Input) × ((r : ℕ → Bool) → value n m x r t ≡ value n m (flipA i x) r t → ⊥)
+depends-seen n m i t h d =
+    let w = seen n i t d in
+    (w .0, λ r e. changed (value n m (w .0) r t) (e ∙ value-flip n m i h (w .0) r t ∙ ap (xor (value n m (w .0) r t)) (w .1)))
 
+pub depends-exactly : (n m i : ℕ) (t : Terms) → i < n
+    → (dependsA n t i ≡ true) ↔ ((x : Input) × (r : ℕ → Bool) × (value n m x r t ≡ value n m (flipA i x) r t → ⊥))
+depends-exactly n m i t h = (λ d. let w = depends-seen n m i t h d in (w .0, λ k. false, w .1 (λ k. false)), back)
+  where
     elsewhere : (x : Input) (k : ℕ) → dependsA n t i ≡ false → dependsA n t k ≡ true → x .ofA k ≡ flipA i x .ofA k
     elsewhere x k apart d = go (eqb k i) refl
       where
@@ -122,21 +125,20 @@ depends-exactly n m i t h = (there, back)
         go true e = absurd (true≢false (sym d ∙ ap (dependsA n t) (eqb-true k i e) ∙ apart))
         go false e = sym (xor-false (x .ofA k))
 
-    back : (x : Input) × ((r : ℕ → Bool) → value n m x r t ≡ value n m (flipA i x) r t → ⊥) → dependsA n t i ≡ true
+    back : (x : Input) × (r : ℕ → Bool) × (value n m x r t ≡ value n m (flipA i x) r t → ⊥) → dependsA n t i ≡ true
     back w = go (dependsA n t i) refl
       where
         go : (b : Bool) → dependsA n t i ≡ b → b ≡ true
         go true e = refl
-        go false e =
-            absurd (w .1 (λ k. false) (value-agree n m (w .0) (flipA i (w .0)) (λ k. false) t (λ k b d. elsewhere (w .0) k e d) (λ k b d. refl)))
+        go false e = absurd (w .2 (value-agree n m (w .0) (flipA i (w .0)) (w .1) t (λ k b d. elsewhere (w .0) k e d) (λ k b d. refl)))
 
 pub depends-exactly-b : (n m j : ℕ) (t : Terms) → j < n
-    → (dependsB n t j ≡ true) ↔ ((x : Input) × ((r : ℕ → Bool) → value n m x r t ≡ value n m (flipB j x) r t → ⊥))
+    → (dependsB n t j ≡ true) ↔ ((x : Input) × (r : ℕ → Bool) × (value n m x r t ≡ value n m (flipB j x) r t → ⊥))
 depends-exactly-b n m j t h =
     let iff = depends-exactly n m j (swap t) h in (
       λ d. let w = iff .0 d in
-          (swapInput (w .0), λ r e. w .1 r (value-swap n m (swapInput (w .0)) r t ∙ e ∙ sym (value-swap n m (flipB j (swapInput (w .0))) r t))),
-      λ w. iff .1 (swapInput (w .0), λ r e. w .1 r (sym (value-swap n m (w .0) r t) ∙ e ∙ value-swap n m (flipB j (w .0)) r t)),
+          (swapInput (w .0), w .1, λ e. w .2 (value-swap n m (swapInput (w .0)) (w .1) t ∙ e ∙ sym (value-swap n m (flipB j (swapInput (w .0))) (w .1) t))),
+      λ w. iff .1 (swapInput (w .0), w .1, λ e. w .2 (sym (value-swap n m (w .0) (w .1) t) ∙ e ∙ value-swap n m (flipB j (w .0)) (w .1) t)),
     )
 
 module _ (n m : ℕ) (t : Terms) where
@@ -161,14 +163,14 @@ module _ (n m : ℕ) (t : Terms) where
       no-share true e =
           let w = some-where n (dependsA n t) e in
           let d = depends-exactly n m (w .0) t (w .1) .0 (w .2) in
-          absurd (d .1 (λ k. false) (zero (d .0) (λ k. false) ∙ sym (zero (flipA (w .0) (d .0)) (λ k. false))))
+          absurd (d .2 (zero (d .0) (d .1) ∙ sym (zero (flipA (w .0) (d .0)) (d .1))))
 
       no-share-b : (b : Bool) → some (dependsB n t) (upTo n) ≡ b → b ≡ false
       no-share-b false e = refl
       no-share-b true e =
           let w = some-where n (dependsB n t) e in
           let d = depends-exactly-b n m (w .0) t (w .1) .0 (w .2) in
-          absurd (d .1 (λ k. false) (zero (d .0) (λ k. false) ∙ sym (zero (flipB (w .0) (d .0)) (λ k. false))))
+          absurd (d .2 (zero (d .0) (d .1) ∙ sym (zero (flipB (w .0) (d .0)) (d .1))))
 
       no-mask : (b : Bool) → masked m t ≡ b → b ≡ false
       no-mask false e = refl

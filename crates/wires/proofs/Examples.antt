@@ -6,9 +6,9 @@ use mathlib.Core.Bool.{Bool, true, false, xor}
 use mathlib.Core.List.{List, [], _∷_}
 use lib.Dec.{eqb}
 use lib.ListN.{getD}
-use Rattle.basics.specs.Folds.{upTo}
+use Rattle.basics.specs.Folds.{some, upTo}
 use Rattle.wires.specs.declared.Notion.the-variants.{Ni, Sni}
-use Rattle.wires.specs.Wires.{Terms, Wire, Input, value, none, plus, countA, countB, masked, allowed, breaks}
+use Rattle.wires.specs.Wires.{Terms, Wire, Input, value, none, plus, swap, countA, countB, masked, allowed, breaks}
 
 -- the bits of s00, s01, s10 and s11 in their order
 abbrev of-products : List Bool → Terms
@@ -57,3 +57,19 @@ pub mask-taken-away : let secret = plus (of-share 0) (of-share 1) in (breaks Ni 
     × (breaks Sni 2 1 (inner (plus secret of-mask) ∷ outer-wire of-mask ∷ []) ≡ true)
 unfolding breaks countA masked upTo xor
 mask-taken-away = (refl, refl, refl, refl)
+
+-- both shares of b
+pub both-of-b : let secret = swap (plus (of-share 0) (of-share 1)) in
+    (breaks Ni 2 1 (inner secret ∷ []) ≡ true) × (breaks Sni 2 1 (outer-wire secret ∷ []) ≡ true) × (breaks Ni 2 1 (inner secret ∷ inner none ∷ []) ≡ false)
+unfolding breaks countA masked upTo xor
+both-of-b = (refl, refl, refl)
+
+-- three shares under two masks: the three wires together show all of a, and break where one of them does not pay
+abbrev under : ℕ → List ℕ → Terms
+under i masks = record { product = λ i j. false; shareA = λ k. eqb k i; shareB = λ j. false; mask = λ k. some (eqb k) masks }
+
+pub three-wires : let x = under 0 (0 ∷ []) in let y = under 1 (0 ∷ 1 ∷ []) in let z = under 2 (1 ∷ []) in
+    (breaks Ni 3 2 (inner x ∷ inner y ∷ inner z ∷ []) ≡ false) × (breaks Sni 3 2 (outer-wire x ∷ inner y ∷ inner z ∷ []) ≡ true)
+    × (breaks Sni 3 2 (outer-wire x ∷ outer-wire y ∷ []) ≡ false) × (countA 3 (plus x (plus y z)) ≡ 3)
+unfolding breaks countA masked upTo xor
+three-wires = (refl, refl, refl, refl)

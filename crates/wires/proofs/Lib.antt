@@ -1,6 +1,15 @@
 -- The theorems on wires.
+--     Value        the value of a sum; operands exchanged; inputs that agree
+--     Dependence   what dependence means; terms with no bit set
+--     Units        what single products, shares and masks are worth
+--     Function     the function check
+--     Narrow       bits of a record beyond the gadget's own
+--     Breaks       what the breaking test says
+--     Examples     on two shares and one or two masks
 pub mod Value
 pub mod Dependence
+pub mod Units
 pub mod Function
 pub mod Narrow
+pub mod Breaks
 pub mod Examples

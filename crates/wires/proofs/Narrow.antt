@@ -4,7 +4,6 @@
 --     within-total                    so it is for a sum
 --     countA-narrow, masked-narrow    the counts over all bits of a record are those over the gadget's own
 --     breaks-narrow, blank-narrow     and so are the breaking test and the test that no bit is set
---     empty-breaks-nothing            the empty set breaks nothing
 use Prim.Native.Nat.{ℕ, _+_, _≤_, _<_}
 use native.Mathlib.Decide.{decLt}
 use native.Mathlib.Omega.{arith}
@@ -148,17 +147,3 @@ module _ (N M n m : ℕ) (small : n ≤ N) (few : m ≤ M) where
           go : Dec (i < n) → b ≡ false
           go (yes h) = f h
           go (no h) = g (omega arith)
-
-pub empty-breaks-nothing : (notion : Notion) (n m : ℕ) → breaks notion n m [] ≡ false
-unfolding breaks countA
-empty-breaks-nothing notion n m =
-    ap (λ (b : Bool). not (masked m none) && b) (ap₂ (λ (x y : ℕ). ltb 0 x || ltb 0 y) (nothing n) (nothing n)) ∙ last (masked m none)
-  where
-    nothing : (n : ℕ) → countA n none ≡ 0
-    nothing n =
-        fold-unit _+_ 0 zero-add (λ i. oneIf (some (λ j. false) (upTo n) || false)) (upTo n)
-        (λ i. ap (λ (b : Bool). oneIf (b || false)) (fold-unit _||_ false (λ x. refl) (λ j. false) (upTo n) (λ j. refl)))
-
-    last : (b : Bool) → (not b && false) ≡ false
-    last true = refl
-    last false = refl

@@ -1,0 +1,69 @@
+-- What single terms are worth: with the law of sums, the value of every record.
+--     justProduct, justShare, justMask            the terms that name one product, one share of a, one mask
+--     value-of-product, value-of-share, value-of-mask     their values: the product of the two shares, the share, the mask
+--     value-of-share-b                            a share of b
+use Prim.Native.Nat.{ℕ, _<_}
+use mathlib.Core.Path.{_≡_, refl, sym, _∙_, ap, ap₂}
+use mathlib.Core.Bool.{Bool, true, false, cond, _&&_, xor, and-comm}
+use mathlib.Core.List.{List}
+use lib.Dec.{eqb}
+use Rattle.basics.specs.Folds.{fold, parity, upTo}
+use Rattle.basics.proofs.Tests.{xor-false, false-xor}
+use Rattle.basics.proofs.Folds.{fold-cong, fold-unit}
+use Rattle.wires.specs.Wires.{Terms, Input, value, none, swap, swapInput}
+use Rattle.wires.proofs.Value.{value-swap}
+use Rattle.wires.proofs.Dependence.{parity-pick}
+
+abbrev pub justProduct : ℕ → ℕ → Terms
+justProduct i j = record { product = λ k l. eqb k i && eqb l j; shareA = λ k. false; shareB = λ k. false; mask = λ k. false }
+
+abbrev pub justShare : ℕ → Terms
+justShare i = record { product = λ k l. false; shareA = λ k. eqb k i; shareB = λ k. false; mask = λ k. false }
+
+abbrev pub justMask : ℕ → Terms
+justMask i = record { product = λ k l. false; shareA = λ k. false; shareB = λ k. false; mask = λ k. eqb k i }
+
+nothing : {A : Type 0} (l : List A) → parity (λ x. false) l ≡ false
+nothing l = fold-unit xor false false-xor (λ x. false) l (λ x. refl)
+
+no-products : (n : ℕ) → parity (λ i. parity (λ j. false) (upTo n)) (upTo n) ≡ false
+no-products n = fold-unit xor false false-xor (λ i. parity (λ j. false) (upTo n)) (upTo n) (λ i. nothing (upTo n))
+
+picked : (n k : ℕ) (f : ℕ → Bool) → k < n → parity (λ i. eqb i k && f i) (upTo n) ≡ f k
+picked n k f h =
+    fold-cong xor false (λ i. eqb i k && f i) (λ i. cond (eqb i k) (f i) false) (upTo n) (λ i. chosen (eqb i k) (f i)) ∙ parity-pick n k f h
+  where
+    chosen : (b c : Bool) → (b && c) ≡ cond b c false
+    chosen true c = refl
+    chosen false c = refl
+
+module _ (n m : ℕ) (x : Input) (r : ℕ → Bool) where
+  pub value-of-mask : (k : ℕ) → k < m → value n m x r (justMask k) ≡ r k
+  unfolding value
+  value-of-mask k h =
+      ap₂ xor (no-products n) (ap₂ xor (nothing (upTo n)) (ap₂ xor (nothing (upTo n)) (picked m k r h)))
+      ∙ false-xor (xor false (xor false (r k))) ∙ false-xor (xor false (r k)) ∙ false-xor (r k)
+
+  pub value-of-share : (i : ℕ) → i < n → value n m x r (justShare i) ≡ x .ofA i
+  unfolding value
+  value-of-share i h =
+      ap₂ xor (no-products n) (ap₂ xor (picked n i (x .ofA) h) (ap₂ xor (nothing (upTo n)) (nothing (upTo m))))
+      ∙ false-xor (xor (x .ofA i) (xor false false)) ∙ ap (xor (x .ofA i)) (false-xor false) ∙ xor-false (x .ofA i)
+
+  pub value-of-product : (i j : ℕ) → i < n → j < n → value n m x r (justProduct i j) ≡ (x .ofA i && x .ofB j)
+  unfolding value
+  value-of-product i j h l =
+      ap₂ xor products (ap₂ xor (nothing (upTo n)) (ap₂ xor (nothing (upTo n)) (nothing (upTo m))))
+      ∙ ap (xor (x .ofA i && x .ofB j)) (false-xor (xor false false) ∙ false-xor false) ∙ xor-false (x .ofA i && x .ofB j)
+    where
+      row : (b : Bool) (k : ℕ) → parity (λ t. b && eqb t j && (x .ofA k && x .ofB t)) (upTo n) ≡ (b && (x .ofA k && x .ofB j))
+      row true k = picked n j (λ t. x .ofA k && x .ofB t) l
+      row false k = nothing (upTo n)
+      products : parity (λ k. parity (λ t. eqb k i && eqb t j && (x .ofA k && x .ofB t)) (upTo n)) (upTo n) ≡ (x .ofA i && x .ofB j)
+      products =
+          fold-cong xor false (λ k. parity (λ t. eqb k i && eqb t j && (x .ofA k && x .ofB t)) (upTo n)) (λ k. eqb k i && (x .ofA k && x .ofB j)) (upTo n)
+            (λ k. row (eqb k i) k)
+          ∙ picked n i (λ k. x .ofA k && x .ofB j) h
+
+pub value-of-share-b : (n m : ℕ) (x : Input) (r : ℕ → Bool) (j : ℕ) → j < n → value n m x r (swap (justShare j)) ≡ x .ofB j
+value-of-share-b n m x r j h = value-swap n m (swapInput x) r (justShare j) ∙ value-of-share n m (swapInput x) r j h
