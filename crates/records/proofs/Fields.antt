@@ -1,7 +1,8 @@
 -- The fields of a record, as the code reads them.
---     four-bytes, eight-bytes       the numbers that the code puts together
+--     two-bytes, four-bytes, eight-bytes       the numbers that the code puts together
 --     field-at                      a field of a wire's record stands at its place in the table
 --     byte-at                       a field of one byte
+--     place-fields                  what a record says of the text
 --     record-inside                 a wire's record lies within the table
 use Prim.Native.Nat.{ℕ, zero, suc, _+_, _-_, _*_, _^_, _≤_, _<_}
 use native.Mathlib.Nat.{div-mul-le-self, add-zero}
@@ -11,7 +12,7 @@ use mathlib.Core.List.{List, [], _∷_}
 use lib.ListN.{length, take, drop, getD}
 use lib.Seq.{drop-cons, drop-drop, take-take, take-nil}
 use Rattle.records.specs.Words.{number}
-use Rattle.records.specs.Layout.{field, recordAt, wireCount}
+use Rattle.records.specs.Layout.{field, lineOf, offsetOf, lengthOf, recordAt, wireCount}
 
 -- the byte at p, and what follows it
 step : (l : List ℕ) (p q : ℕ) → suc p ≡ q → p < length l → drop p l ≡ getD l p 0 ∷ drop q l
@@ -27,6 +28,13 @@ unrolled l at h =
     ∙ ap {B = List ℕ} (λ (k : List ℕ). getD l at 0 ∷ k) (step l (at + 1) (at + 2) (omega arith) (omega arith)
     ∙ ap {B = List ℕ} (λ (k : List ℕ). getD l (at + 1) 0 ∷ k) (step l (at + 2) (at + 3) (omega arith) (omega arith)
     ∙ ap {B = List ℕ} (λ (k : List ℕ). getD l (at + 2) 0 ∷ k) (step l (at + 3) (at + 4) (omega arith) (omega arith))))
+
+pub two-bytes : (l : List ℕ) (at a b : ℕ) → at + 2 ≤ length l → a ≡ getD l at 0 → b ≡ getD l (at + 1) 0 → a + 256 * b ≡ number (take 2 (drop at l))
+two-bytes l at a b h ea eb =
+    let e : number (take 2 (drop at l)) ≡ getD l at 0 + 256 * (getD l (at + 1) 0 + 256 * 0) =
+    ap (λ (k : List ℕ). number (take 2 k))
+    (step l at (at + 1) (omega arith) (omega arith) ∙ ap {B = List ℕ} (λ (k : List ℕ). getD l at 0 ∷ k) (step l (at + 1) (at + 2) (omega arith) (omega arith))) in
+    omega (arith, ea, eb, e)
 
 pub four-bytes : (l : List ℕ) (at a b c d : ℕ) → at + 4 ≤ length l → a ≡ getD l at 0 → b ≡ getD l (at + 1) 0 → c ≡ getD l (at + 2) 0
     → d ≡ getD l (at + 3) 0
@@ -67,3 +75,13 @@ field-at table wire at size h =
     (ap (take size) (drop-take at (24 - at) 24 (drop (24 * wire) table) (omega arith))
     ∙ take-take size (24 - at) (drop at (drop (24 * wire) table)) (omega arith)
     ∙ ap (take size) (drop-drop at (24 * wire) table))
+
+pub place-fields : (table : List ℕ) (wire x y z : ℕ) → wire < wireCount table → x ≡ getD table (24 * wire + 19) 0
+    → y ≡ number (take 2 (drop (24 * wire + 20) table)) → z ≡ number (take 2 (drop (24 * wire + 22) table))
+    → (x ≡ lineOf (recordAt table wire)) × (y ≡ offsetOf (recordAt table wire)) × (z ≡ lengthOf (recordAt table wire))
+place-fields table wire x y z h ex ey ez =
+    let r = record-inside table wire h in (
+      ex ∙ sym (byte-at table (24 * wire + 19) (omega (arith, r))) ∙ sym (field-at table wire 19 1 (omega arith)),
+      ey ∙ sym (field-at table wire 20 2 (omega arith)),
+      ez ∙ sym (field-at table wire 22 2 (omega arith)),
+    )

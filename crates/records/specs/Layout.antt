@@ -2,6 +2,7 @@
 -- offset and length in the text) have no part in what a wire is.
 --     field at size r     the number of `size` bytes of a record, from byte `at` on
 --     decode r            the wire that a record's 24 bytes are
+--     lineOf, offsetOf, lengthOf     what a record says of the text
 --     recordAt, wireAt    the record of a wire of a table, and the wire
 --     wireCount, wires    how many wires a table has, and the wires in their order
 --     inside              every wire of a set is one of the table's
@@ -30,6 +31,16 @@ decodeTerms products masks a b =
 -- byte 18, 0 inner or 1 outer
 abbrev pub decode : List ℕ → Wire
 decode r = record { terms = decodeTerms (field 0 8 r) (field 8 8 r) (field 16 1 r) (field 17 1 r); outer = eqb (field 18 1 r) 1 }
+
+-- byte 19, number of the output line from 0, 0 for inner; bytes 20 and 21, offset in the text; 22 and 23, length
+abbrev pub lineOf : List ℕ → ℕ
+lineOf = field 19 1
+
+abbrev pub offsetOf : List ℕ → ℕ
+offsetOf = field 20 2
+
+abbrev pub lengthOf : List ℕ → ℕ
+lengthOf = field 22 2
 
 abbrev pub recordAt : List ℕ → ℕ → List ℕ
 recordAt table wire = take recordBytes (drop (recordBytes * wire) table)

@@ -3,6 +3,7 @@ ghost use mathlib.Core.Path.{_≡_};
 ghost use Prim.Native.Nat.{_≤_, _<_, _+_, _^_};
 ghost use lib.ListN.{take, drop};
 ghost use Rattle.records.specs.Words.{number};
+ghost use Rattle.records.specs.Layout.{wireCount, recordAt, lineOf, offsetOf, lengthOf};
 
 pub const RECORD_BYTES: usize = 24;
 
@@ -43,4 +44,34 @@ pub fn word(bytes: &[u8], at: usize) -> u64
     ensures { λ r. ⌜ r ≡ number (take 8 (drop at (now (bytes .entry)))) ⌝ }
 {
     half_word(bytes, at) + 4294967296 * half_word(bytes, at + 4)
+}
+
+// The number of two bytes.
+fn short(bytes: &[u8], at: usize) -> usize
+    requires { do ⌜ at + 2 ≤ (← ⟦bytes.len()⟧) ⌝ }
+    ensures { λ r. ⌜ r ≡ number (take 2 (drop at (now (bytes .entry)))) ⌝ }
+{
+    let low = wide(bytes[at]) as usize;
+    let high = wide(bytes[at + 1]) as usize;
+    low + 256 * high
+}
+
+// Where a wire stands in the text: its output line, and the offset and length of the part that computes it.
+pub struct TextPlace {
+    pub line: u8,
+    pub offset: usize,
+    pub length: usize,
+}
+
+// What a wire's record says of the text.
+pub fn text_place(table: &[u8], wire: usize) -> TextPlace
+    requires { ⌜ wire < wireCount (now table) ⌝ }
+    ensures { λ r. ⌜ (r .line ≡ lineOf (recordAt (now (table .entry)) wire)) × (r .offset ≡ offsetOf (recordAt (now (table .entry)) wire)) × (r .length ≡ lengthOf (recordAt (now (table .entry)) wire)) ⌝ }
+{
+    let at = RECORD_BYTES * wire;
+    TextPlace {
+        line: table[at + LINE_AT],
+        offset: short(table, at + OFFSET_AT),
+        length: short(table, at + LENGTH_AT),
+    }
 }

@@ -56,12 +56,14 @@ module _ (notion : Notion) (n m : ℕ) (s : List Wire) where
           go : (a ≡ true) ⊎ (b ≡ true) → (allowed notion s < countA n (total s)) ⊎ (allowed notion s < countB n (total s))
           go (inl p) = inl (ltb-true (allowed notion s) (countA n (total s)) p)
           go (inr p) = inr (ltb-true (allowed notion s) (countB n (total s)) p)
+
       back : Breaks notion n m s → breaks notion n m s ≡ true
       back h = and-both (not (masked m (total s))) (a || b) (ap not (free (masked m (total s)) refl)) (go (h .exceeds))
         where
           free : (c : Bool) → masked m (total s) ≡ c → c ≡ false
           free false e = refl
           free true e = let w = some-where m (total s .mask) e in sym (w .2) ∙ h .unmasked (w .0) (w .1)
+
           go : (allowed notion s < countA n (total s)) ⊎ (allowed notion s < countB n (total s)) → (a || b) ≡ true
           go (inl p) = or-left a b (lt-ltb (allowed notion s) (countA n (total s)) p)
           go (inr p) = or-right a b (lt-ltb (allowed notion s) (countB n (total s)) p)
@@ -77,6 +79,7 @@ breaks-swap notion n m s =
   where
     sums : total (map swapWire s) ≡ swap (total s)
     sums = fold-map plus none swapWire (λ w. w .terms) s ∙ sym (fold-hom plus none plus none swap refl (λ t u. refl) (λ w. w .terms) s)
+
     paid : (notion : Notion) → allowed notion (map swapWire s) ≡ allowed notion s
     paid Ni = fold-map _+_ 0 swapWire (λ w. 1) s
     paid Sni = fold-map _+_ 0 swapWire (λ w. oneIf (not (w .outer))) s

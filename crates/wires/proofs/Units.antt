@@ -59,10 +59,11 @@ module _ (n m : ℕ) (x : Input) (r : ℕ → Bool) where
       row : (b : Bool) (k : ℕ) → parity (λ t. b && eqb t j && (x .ofA k && x .ofB t)) (upTo n) ≡ (b && (x .ofA k && x .ofB j))
       row true k = picked n j (λ t. x .ofA k && x .ofB t) l
       row false k = nothing (upTo n)
+
       products : parity (λ k. parity (λ t. eqb k i && eqb t j && (x .ofA k && x .ofB t)) (upTo n)) (upTo n) ≡ (x .ofA i && x .ofB j)
       products =
           fold-cong xor false (λ k. parity (λ t. eqb k i && eqb t j && (x .ofA k && x .ofB t)) (upTo n)) (λ k. eqb k i && (x .ofA k && x .ofB j)) (upTo n)
-            (λ k. row (eqb k i) k)
+          (λ k. row (eqb k i) k)
           ∙ picked n i (λ k. x .ofA k && x .ofB j) h
 
 pub value-of-share-b : (n m : ℕ) (x : Input) (r : ℕ → Bool) (j : ℕ) → j < n → value n m x r (swap (justShare j)) ≡ x .ofB j
