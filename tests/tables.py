@@ -4,8 +4,10 @@
 usage: tables.py cases > crates/checks/stdin        tables.py answers > crates/checks/stdout
 
 The function check is made by trying: every share and every mask is a bit that runs through all values, a wire's value is the column of its
-values, and the outer wires' columns are added up and compared with the function's. Nothing is compared record by record.
+values, and the outer wires' columns are added up and compared with the function's. Breaking sets are found in the same way: a sum depends on
+a share, or keeps a mask, when a change of that bit alone changes its value somewhere. Nothing is compared record by record.
 """
+import itertools
 import random
 import sys
 
@@ -43,16 +45,48 @@ def total(values):
     return result
 
 
+class Columns:
+    """The columns of a table's wires over all values of its shares and masks."""
+
+    def __init__(self, wires, shares):
+        masks = sorted({k for w in wires for k in w.masks})  # those that occur nowhere change no value
+        self.shares, self.masks = shares, len(masks)
+        bits = list(columns(2 * shares + len(masks)))
+        self.size = 1 << len(bits)
+        a, b, r = bits[:shares], bits[shares : 2 * shares], dict(zip(masks, bits[2 * shares :]))
+        self.a, self.b = a, b
+        self.wires = [
+            total(a[i] & b[j] for i, j in w.products) ^ total(a[i] for i in w.a) ^ total(b[j] for j in w.b) ^ total(r[k] for k in w.masks)
+            for w in wires
+        ]
+
+    def changes(self, column, k):
+        """Whether the column has two places that differ in bit k alone and have different values."""
+        step = 1 << k
+        low = next(itertools.islice(columns(self.size.bit_length() - 1), k, None)) >> step  # the places with bit k at 0
+        return (column ^ column >> step) & low != 0
+
+
 def computes(wires, shares, function):
-    masks = sorted({k for w in wires for k in w.masks})  # those that occur nowhere change no value
-    bits = list(columns(2 * shares + len(masks)))
-    a, b, r = bits[:shares], bits[shares : 2 * shares], dict(zip(masks, bits[2 * shares :]))
-    outer = total(
-        total(a[i] & b[j] for i, j in w.products) ^ total(a[i] for i in w.a) ^ total(b[j] for j in w.b) ^ total(r[k] for k in w.masks)
-        for w in wires
-        if w.outer
-    )
-    return outer == {1: total(a) & total(b), 2: total(a) ^ total(b), 3: total(a)}[function]
+    table = Columns(wires, shares)
+    a, b = total(table.a), total(table.b)
+    return total(c for c, w in zip(table.wires, wires) if w.outer) == {1: a & b, 2: a ^ b, 3: a}[function]
+
+
+def breaking(wires, shares):
+    """How many sets of up to three wires break NI, and how many SNI: by which shares and masks change the sum's value."""
+    table = Columns(wires, shares)
+    found = [0, 0]
+    for size in (1, 2, 3):
+        for chosen in itertools.combinations(range(len(wires)), size):
+            column = total(table.wires[w] for w in chosen)
+            if any(table.changes(column, 2 * shares + k) for k in range(table.masks)):
+                continue
+            counts = [sum(table.changes(column, start + i) for i in range(shares)) for start in (0, shares)]
+            inner = sum(not wires[w].outer for w in chosen)
+            found[0] += max(counts) > size
+            found[1] += max(counts) > inner
+    return found
 
 
 def answers(case):
@@ -107,11 +141,16 @@ def limits():
         yield shares, 64, 1, one, 0
     for masks in (0, 64, 65, 255):
         yield 8, masks, 1, [Wire(masks=[masks - 1])] if 0 < masks <= 64 else one, 0
-    for tail in (1, 23):
+    for tail in (1, 8, 12, 23, 25, 36):
         yield 2, 0, 1, one, tail
     yield 2, 0, 1, [], 0
     yield 2, 0, 1, [Wire()] * 512, 0
+    yield 2, 0, 1, [Wire()] * 511 + [Wire(outer=2)], 0
+    last = function_wire(1, 2)
+    last.outer = 1
+    yield 2, 0, 1, [Wire()] * 511 + [last], 0
     yield 2, 0, 1, [Wire()] * 513, 0
+    yield 2, 0, 1, [Wire()] * 514, 0
     yield 9, 65, 0, [Wire(outer=2)], 1
     yield 2, 0, 0, [Wire(outer=2)], 1
     yield 2, 0, 0, [Wire(outer=2)], 0
@@ -168,7 +207,9 @@ def main():
     elif sys.argv[1:] == ["answers"]:
         for case in cases():
             shares, masks, function, wires, tail = case
-            print(shares, masks, RECORD * len(wires) + tail, function, *answers(case))
+            told = answers(case)
+            few = tail == 0 and len(wires) <= 12 and told[0] == "accepted"
+            print(shares, masks, RECORD * len(wires) + tail, function, *told, *(["breaking", *breaking(wires, shares)] if few else []))
     else:
         sys.exit(__doc__)
 

@@ -1,16 +1,23 @@
-// Prints what `table_check` and `function_check` answer on the cases of its input: a case is the shares, the masks and the function, a byte
+// Prints what `table_check` and `function_check` answer on the cases of its input, and how many small sets of an accepted table break: a case is the shares, the masks and the function, a byte
 // each, the table's length in two bytes, the lower first, and the table. `tests/tables.py` writes the input, and works the output out by
 // trying every value of shares and masks.
-ghost use Prim.Native.Nat.{_<_};
+ghost use Prim.Native.Nat.{_≤_, _<_};
+ghost use Rattle.records.specs.Layout.{wireCount};
+use records::layout::RECORD_BYTES;
+use records::sums;
 use table::FunctionAnswer;
 use table::Refusal;
 use table::TableAnswer;
+use wires::Notion;
 
 const STDIN: i32 = 0;
 
 const STDOUT: i32 = 1;
 
-const ROOM: usize = 65536;
+const ROOM: usize = 131072;
+
+// Tables of so many wires at most have their breaking sets counted.
+const FEW_WIRES: usize = 12;
 
 const HEAD: usize = 5;
 
@@ -61,9 +68,13 @@ fn tell(table: &[u8], shares: usize, masks: usize, function: usize) {
     number(table.len());
     number(function);
     let tested = table::table_check(table, shares, masks);
+    let mut sound = true;
     match tested {
         TableAnswer::Accepted => say(b"accepted"),
-        TableAnswer::Refused(why) => refused(why),
+        TableAnswer::Refused(why) => {
+            sound = false;
+            refused(why);
+        }
     }
     say(b" ");
     let answer = table::function_check(table, shares, masks, function);
@@ -72,7 +83,70 @@ fn tell(table: &[u8], shares: usize, masks: usize, function: usize) {
         FunctionAnswer::No => say(b"no"),
         FunctionAnswer::Refused(why) => refused(why),
     }
+    if sound {
+        breaking(table);
+    }
     say(b"\n");
+}
+
+// How many sets of one, two and three wires break NI, and how many SNI, out of a table of a few wires.
+fn breaking(table: &[u8]) {
+    let wires = table.len() / RECORD_BYTES;
+    if FEW_WIRES < wires {
+        return;
+    }
+    say(b" breaking ");
+    number(sets_of_three(table, Notion::Ni, wires));
+    io::print_decimal(STDOUT, sets_of_three(table, Notion::Sni, wires) as u64);
+}
+
+fn sets_of_three(table: &[u8], notion: Notion, wires: usize) -> usize
+    requires { ⌜ (wires ≤ 12) × (wires ≤ wireCount (now table)) ⌝ }
+{
+    let mut count = 0;
+    for i in 0..wires {
+        count = more(count, sums::set_breaks(table, notion, &[i as u16]));
+        count = with_first(table, notion, wires, i, count);
+    }
+    count
+}
+
+// The pairs and the triples whose first wire is i.
+fn with_first(table: &[u8], notion: Notion, wires: usize, i: usize, so_far: usize) -> usize
+    requires { ⌜ (wires ≤ 12) × (wires ≤ wireCount (now table)) × (i < wires) ⌝ }
+{
+    let mut count = so_far;
+    for j in i + 1..wires {
+        count = more(
+            count,
+            sums::set_breaks(table, notion, &[i as u16, j as u16]),
+        );
+        count = with_two(table, notion, wires, i, j, count);
+    }
+    count
+}
+
+// The triples whose first wires are i and j.
+fn with_two(table: &[u8], notion: Notion, wires: usize, i: usize, j: usize, so_far: usize) -> usize
+    requires { ⌜ (wires ≤ 12) × (wires ≤ wireCount (now table)) × (i < wires) × (j < wires) ⌝ }
+{
+    let mut count = so_far;
+    for k in j + 1..wires {
+        count = more(
+            count,
+            sums::set_breaks(table, notion, &[i as u16, j as u16, k as u16]),
+        );
+    }
+    count
+}
+
+fn more(count: usize, breaks: bool) -> usize {
+    if breaks {
+        if count < 65535 {
+            return count + 1;
+        }
+    }
+    count
 }
 
 fn refused(why: Refusal) {

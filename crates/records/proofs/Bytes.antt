@@ -2,6 +2,7 @@
 --     number-bit                        bit 8 i + j of a little-endian number is bit j of byte i
 --     product-at, mask-at, share-a-at, share-b-at, outer-at     the terms of a record and its flag, byte by byte
 --     wires-none, wires-more            the wires of a table: none, or that of the first 24 bytes and those of the rest
+--     inside-none, inside-more          the empty set, and one wire more
 --     inside-exactly                    every wire of a set is one of the table's
 use Prim.Native.Nat.{ℕ, zero, suc, _+_, _-_, _*_, _/_, _%_, _<_, suc-le-suc}
 use native.Mathlib.Nat.{mod-lt, zero-lt-suc, zero-add}
@@ -105,3 +106,11 @@ inside-exactly table set = (λ e i h. set-inside table set i e h, back table set
     back table (w ∷ set) h =
         and-both (ltb w (wireCount table)) (every (λ w. ltb w (wireCount table)) set) (lt-ltb w (wireCount table) (h 0 (zero-lt-suc (length set))))
         (back table set (λ i k. h (suc i) (suc-le-suc k)))
+
+pub inside-none : (table : List ℕ) → inside table [] ≡ true
+unfolding inside
+inside-none table = refl
+
+pub inside-more : (table set : List ℕ) (w : ℕ) → w < wireCount table → inside table set ≡ true → inside table (w ∷ set) ≡ true
+unfolding inside
+inside-more table set w h e = and-both (ltb w (wireCount table)) (every (λ w. ltb w (wireCount table)) set) (lt-ltb w (wireCount table) h) e

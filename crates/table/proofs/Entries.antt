@@ -1,5 +1,6 @@
 -- What the tests of a table give to the operations that come after them, and what the function check tells.
 --     Accepted                     a table, a number of shares and one of masks that pass the tests
+--     Sound, accepted-exactly      what the tests let through, in the scope's words
 --     records-decide               where the numbers and the length are right, the records decide
 --     accepted, tested-answer      where the tests pass, the operation's own answer stands
 --     tested-refusal               where they do not, their refusal stands
@@ -12,25 +13,28 @@ use Prim.Native.Nat.{ℕ, _%_, _≤_, _<_}
 use native.Mathlib.Nat.{le-trans}
 use native.Mathlib.Omega.{arith}
 use mathlib.Core.Path.{_≡_, refl, sym, _∙_, ap, ap₂}
-use mathlib.Core.Logic.{_⊎_, inl, inr}
+use mathlib.Core.Logic.{_↔_, _⊎_, inl, inr}
 use mathlib.Core.Bool.{Bool, true, false, cond, not, _&&_, _||_, xor, true≢false, and-false, and-true}
 use mathlib.Core.List.{List, [], _∷_, map}
-use borrow.Author.Tests.{le-leb, lt-leb, ltb-false, le-ltb, lt-ltb, ltb-true, eq-eqb}
+use borrow.Author.Tests.{le-leb, lt-leb, ltb-false, le-ltb, lt-ltb, ltb-true, eq-eqb, eqb-true, not-false}
 use lib.ListN.{length}
-use lib.Dec.{ltb, leb}
+use lib.Dec.{ltb, leb, eqb}
 use Rattle.basics.specs.Folds.{some, every, keep, oneIf, upTo}
 use Rattle.basics.specs.Told.{Told, values, refusal}
 use Rattle.basics.proofs.Tests.{and-left, and-right, or-none, bool-ext}
-use Rattle.basics.proofs.Folds.{never, every-below}
+use Rattle.basics.proofs.Folds.{some-where, never, every-below}
 use Rattle.wires.specs.declared.Notion.{Notion}
 use Rattle.wires.specs.Wires.{Terms, Wire, plus, total, breaks, beyond}
 use Rattle.wires.specs.Function.{functionTerms, outers, blank, computes}
 use Rattle.wires.proofs.Dependence.{blank-bits, bits-blank}
 use Rattle.wires.proofs.Function.{computes-exactly}
-use Rattle.wires.proofs.Narrow.{Within, AllWithin, within, within-plus, within-total, breaks-narrow, blank-narrow}
+use Rattle.wires.proofs.Narrow.{Within, AllWithin, within, not-beyond, within-plus, within-total, breaks-narrow, blank-narrow}
 use Rattle.records.specs.Layout.{field, recordAt, wireAt, wireCount, wires, inside}
 use Rattle.table.specs.Cut.{FirstShares}
-use Rattle.table.specs.Answers.{wrongShares, wrongLength, wrongRecord, tested, tableCheck, functionCheck, FunctionMeans}
+use Rattle.table.specs.declared.Refusal.{Refusal}
+use Rattle.table.specs.declared.Refusal.the-variants.{NoSuchFunction}
+use Rattle.table.specs.declared.FunctionAnswer.{FunctionAnswer}
+use Rattle.table.specs.Answers.{refusalNumber, functionTold, wrongShares, wrongLength, wrongRecord, tested, tableCheck, functionCheck, FunctionMeans}
 
 pub record Accepted (table : List ℕ) (shares masks : ℕ) : Type 0 where
   pub goodShares : wrongShares shares masks ≡ false
@@ -91,6 +95,18 @@ module _ (table : List ℕ) (shares masks : ℕ) where
       go false false true e = same 13 e
       go false false false e = absurd (values-refusal [] k (sym e))
 
+-- ---- what the tests say
+
+-- shares 2 to 8, masks up to 64; a multiple of 24 bytes, up to 12,288; in every record no bit beyond shares and masks, and byte 18 at most 1
+pub record Sound (table : List ℕ) (shares masks : ℕ) : Type 0 where
+  pub low : 2 ≤ shares
+  pub high : shares ≤ 8
+  pub few : masks ≤ 64
+  pub whole : length table % 24 ≡ 0
+  pub short : length table ≤ 12288
+  pub bits : (w : ℕ) → w < wireCount table → Within 8 64 shares masks (wireAt table w .terms)
+  pub flag : (w : ℕ) → w < wireCount table → field 18 1 (recordAt table w) ≤ 1
+
 -- ---- no bit beyond
 
 module _ (table : List ℕ) (shares masks : ℕ) (h : Accepted table shares masks) where
@@ -135,6 +151,42 @@ module _ (table : List ℕ) (shares masks : ℕ) (h : Accepted table shares mask
   pub set-decided : (notion : Notion) (set : List ℕ) → inside table set ≡ true
       → breaks notion 8 64 (map (wireAt table) set) ≡ breaks notion shares masks (map (wireAt table) set)
   set-decided notion set e = breaks-narrow 8 64 shares masks shares-high masks-high notion (map (wireAt table) set) (set-within set e)
+
+-- the tests let through exactly what is sound
+pub accepted-exactly : (table : List ℕ) (shares masks : ℕ) → (values [] ≡ tableCheck table shares masks) ↔ Sound table shares masks
+accepted-exactly table shares masks = (there, back)
+  where
+    wrong : ℕ → Bool
+    wrong w = wrongRecord shares masks (recordAt table w)
+
+    there : values [] ≡ tableCheck table shares masks → Sound table shares masks
+    there e =
+        let h = accepted table shares masks e in
+        let lengths = or-none (not (eqb (length table % 24) 0)) (ltb 12288 (length table)) (h .goodLength) in
+        record {
+          low = shares-low table shares masks h;
+          high = shares-high table shares masks h;
+          few = masks-high table shares masks h;
+          whole = eqb-true (length table % 24) 0 (not-false (eqb (length table % 24) 0) (lengths .0));
+          short = ltb-false 12288 (length table) (lengths .1);
+          bits = wire-within table shares masks h;
+          flag = λ w l. ltb-false 1 (field 18 1 (recordAt table w))
+              (or-none (beyond 8 64 shares masks (wireAt table w .terms)) (ltb 1 (field 18 1 (recordAt table w))) (never (wireCount table) w wrong (h .goodRecords) l) .1);
+        }
+
+    none-wrong : Sound table shares masks → some wrong (upTo (wireCount table)) ≡ false
+    none-wrong h = go (some wrong (upTo (wireCount table))) refl
+      where
+        right : (w : ℕ) → w < wireCount table → wrong w ≡ false
+        right w l =
+            ap₂ (λ (x y : Bool). x || y) (not-beyond 8 64 shares masks (wireAt table w .terms) (h .bits w l)) (le-ltb 1 (field 18 1 (recordAt table w)) (h .flag w l))
+
+        go : (b : Bool) → some wrong (upTo (wireCount table)) ≡ b → b ≡ false
+        go false e = refl
+        go true e = let f = some-where (wireCount table) wrong e in sym (f .2) ∙ right (f .0) (f .1)
+
+    back : Sound table shares masks → values [] ≡ tableCheck table shares masks
+    back h = records-decide table shares masks false (h .low) (h .high) (h .few) (h .whole) (h .short) (sym (ap not (none-wrong h)))
 
 keep-within : (N M n m : ℕ) (f : Wire → Bool) (s : List Wire) → AllWithin N M n m s → AllWithin N M n m (keep f s)
 keep-within N M n m f [] h = tt
@@ -213,50 +265,51 @@ decided false false false false false false e = refl
 decided false false false false true false e = let z : _≡_ {A = ℕ} 1 0 = cc in absurd (omega (arith, z))
 decided false false false false false true e = let z : _≡_ {A = ℕ} 0 1 = cc in absurd (omega (arith, z))
 
-pub function-means : (told : Told) (table : List ℕ) (shares masks function : ℕ) → told ≡ functionCheck table shares masks function
-    → FunctionMeans told table shares masks function
-function-means told table shares masks function e =
+pub function-means : (answer : FunctionAnswer) (table : List ℕ) (shares masks function : ℕ) → functionTold answer ≡ functionCheck table shares masks function
+    → FunctionMeans answer table shares masks function
+function-means answer table shares masks function e =
     let test = computes function shares masks (wires table) in
-    let told-is : (k : Bool) → told ≡ values (oneIf k ∷ []) → test ≡ k = λ k f.
+    let told-is : (k : Bool) → functionTold answer ≡ values (oneIf k ∷ []) → test ≡ k = λ k f.
     decided (wrongShares shares masks) (wrongLength table) (some (λ w. wrongRecord shares masks (recordAt table w)) (upTo (wireCount table)))
     (not (leb 1 function && leb function 3)) test k (sym e ∙ f) in
     let exactly = computes-exactly function shares masks (wires table) in
-    record { yes-means = λ f. exactly .0 (told-is true f); no-means = λ f all. true≢false (sym (exactly .1 all) ∙ told-is false f) }
+    record {
+      yes-means = λ f. exactly .0 (told-is true (ap functionTold f));
+      no-means = λ f all. true≢false (sym (exactly .1 all) ∙ told-is false (ap functionTold f));
+    }
 
 -- ---- the entry's answers, each with the whole of its promise
 
-abbrev pub Promise : Told → List ℕ → ℕ → ℕ → ℕ → Type 0
-Promise told table shares masks function = (told ≡ functionCheck table shares masks function) × FunctionMeans told table shares masks function
+abbrev pub Promise : FunctionAnswer → List ℕ → ℕ → ℕ → ℕ → Type 0
+Promise answer table shares masks function =
+    (functionTold answer ≡ functionCheck table shares masks function) × FunctionMeans answer table shares masks function
 
 module _ (table : List ℕ) (shares masks function : ℕ) where
-  promised : (told : Told) → told ≡ functionCheck table shares masks function → Promise told table shares masks function
-  promised told e = (e, function-means told table shares masks function e)
+  promised : (answer : FunctionAnswer) → functionTold answer ≡ functionCheck table shares masks function → Promise answer table shares masks function
+  promised answer e = (e, function-means answer table shares masks function e)
 
-  pub refused-before : (k : ℕ) → refusal k ≡ tableCheck table shares masks → Promise (refusal k) table shares masks function
-  refused-before k e =
-      promised (refusal k)
-      (sym (tested-refusal table shares masks refusal
-      (cond (not (leb 1 function && leb function 3)) (refusal 20) (values (oneIf (computes function shares masks (wires table)) ∷ []))) k e))
+  abbrev rest : Told
+  rest = cond (not (leb 1 function && leb function 3)) (refusal 20) (values (oneIf (computes function shares masks (wires table)) ∷ []))
+
+  pub refused-before : (why : Refusal) → refusal (refusalNumber why) ≡ tableCheck table shares masks
+      → Promise (FunctionAnswer.Refused why) table shares masks function
+  refused-before why e = promised (FunctionAnswer.Refused why) (sym (tested-refusal table shares masks refusal rest (refusalNumber why) e))
 
   module _ (ok : values [] ≡ tableCheck table shares masks) where
-    own : functionCheck table shares masks function
-        ≡ cond (not (leb 1 function && leb function 3)) (refusal 20) (values (oneIf (computes function shares masks (wires table)) ∷ []))
-    own =
-        tested-answer table shares masks refusal
-        (cond (not (leb 1 function && leb function 3)) (refusal 20) (values (oneIf (computes function shares masks (wires table)) ∷ [])))
-        (accepted table shares masks ok)
+    own : functionCheck table shares masks function ≡ rest
+    own = tested-answer table shares masks refusal rest (accepted table shares masks ok)
 
-    pub function-low : function < 1 → Promise (refusal 20) table shares masks function
-    function-low h = promised (refusal 20) (sym (own ∙ simp (lt-leb 1 function h)))
+    pub function-low : function < 1 → Promise (FunctionAnswer.Refused NoSuchFunction) table shares masks function
+    function-low h = promised (FunctionAnswer.Refused NoSuchFunction) (sym (own ∙ simp (lt-leb 1 function h)))
 
-    pub function-high : 1 ≤ function → 3 < function → Promise (refusal 20) table shares masks function
-    function-high l h = promised (refusal 20) (sym (own ∙ simp (le-leb 1 function l, lt-leb function 3 h)))
+    pub function-high : 1 ≤ function → 3 < function → Promise (FunctionAnswer.Refused NoSuchFunction) table shares masks function
+    function-high l h = promised (FunctionAnswer.Refused NoSuchFunction) (sym (own ∙ simp (le-leb 1 function l, lt-leb function 3 h)))
 
-    pub answered : (x y : Bool) (s t u : Terms) → 1 ≤ function → function ≤ 3 → s ≡ total (outers (wires table))
-        → FirstShares shares (functionTerms function) t → u ≡ plus s t
-        → x ≡ blank 8 64 u → x ≡ y → Promise (values (oneIf y ∷ [])) table shares masks function
-    answered x y s t u l h es ft eu ex e =
+    pub answered : (answer : FunctionAnswer) (x y : Bool) (s t u : Terms) → functionTold answer ≡ values (oneIf y ∷ []) → 1 ≤ function → function ≤ 3
+        → s ≡ total (outers (wires table)) → FirstShares shares (functionTerms function) t → u ≡ plus s t → x ≡ blank 8 64 u → x ≡ y
+        → Promise answer table shares masks function
+    answered answer x y s t u told l h es ft eu ex e =
         let c : y ≡ computes function shares masks (wires table) =
         sym e ∙ ex ∙ ap (blank 8 64) (eu ∙ ap (λ (v : Terms). plus v t) es)
         ∙ function-decided table shares masks function t (accepted table shares masks ok) ft in
-        promised (values (oneIf y ∷ [])) (sym (own ∙ simp (le-leb 1 function l, le-leb function 3 h, c)))
+        promised answer (told ∙ sym (own ∙ simp (le-leb 1 function l, le-leb function 3 h, c)))

@@ -80,6 +80,6 @@ functionCheck table shares masks function =
     (values (oneIf (computes function shares masks (wires table)) ∷ [])))
 
 -- yes: for every input and every mask setting the outer wires' values add up to the function; no: not for every one
-pub record FunctionMeans (told : Told) (table : List ℕ) (shares masks function : ℕ) : Type 0 where
-  pub yes-means : told ≡ values (1 ∷ []) → AddUpTo function shares masks (wires table)
-  pub no-means : told ≡ values (0 ∷ []) → AddUpTo function shares masks (wires table) → ⊥
+pub record FunctionMeans (answer : FunctionAnswer) (table : List ℕ) (shares masks function : ℕ) : Type 0 where
+  pub yes-means : answer ≡ FunctionAnswer.Yes → AddUpTo function shares masks (wires table)
+  pub no-means : answer ≡ FunctionAnswer.No → AddUpTo function shares masks (wires table) → ⊥

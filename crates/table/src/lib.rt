@@ -79,7 +79,7 @@ pub fn table_check(table: &[u8], shares: usize, masks: usize) -> TableAnswer
 // Whether the outer wires add up, for every share and mask value, to 1, the product of the two operands; 2, their sum; 3, operand a.
 pub fn function_check(table: &[u8], shares: usize, masks: usize, function: usize) -> FunctionAnswer
     ensures { λ r. ⌜ functionTold r ≡ functionCheck (now (table .entry)) shares masks function ⌝ }
-    ensures { λ r. ⌜ FunctionMeans (functionTold r) (now (table .entry)) shares masks function ⌝ }
+    ensures { λ r. ⌜ FunctionMeans r (now (table .entry)) shares masks function ⌝ }
 {
     let tested = table_check(table, shares, masks);
     match tested {

@@ -1,6 +1,6 @@
 -- Records hold bits for more shares and masks than a gadget has. Where none is set beyond the gadget's own, nothing changes when all are looked at.
 --     Within                          no bit is set beyond n shares and m masks, of those that a record can hold
---     within                          where the test finds none beyond
+--     within, not-beyond              exactly where the test finds none beyond
 --     within-total                    so it is for a sum
 --     countA-narrow, masked-narrow    the counts over all bits of a record are those over the gadget's own
 --     breaks-narrow, blank-narrow     and so are the breaking test and the test that no bit is set
@@ -12,10 +12,10 @@ use mathlib.Core.Logic.{_⊎_, inl, inr}
 use mathlib.Core.Bool.{Bool, true, false, not, _&&_, _||_, xor, true≢false, or-false}
 use mathlib.Core.List.{List, [], _∷_}
 use native.Mathlib.Nat.{zero-add, add-zero, le-trans}
-use borrow.Author.Tests.{le-leb}
+use borrow.Author.Tests.{le-leb, leb-true}
 use lib.Dec.{ltb, leb}
 use Rattle.basics.specs.Folds.{some, oneIf, upTo}
-use Rattle.basics.proofs.Tests.{or-left, or-right, or-none, bool-ext, false-xor}
+use Rattle.basics.proofs.Tests.{or-left, or-right, or-cases, or-none, bool-ext, false-xor}
 use Rattle.basics.proofs.Folds.{fold-below, fold-narrow, fold-unit, never}
 use Rattle.wires.specs.declared.Notion.{Notion}
 use Rattle.wires.specs.Wires.{Terms, Wire, none, plus, total, swap, dependsA, countA, countB, masked, allowed, breaks, beyond}
@@ -55,6 +55,34 @@ module _ (N M n m : ℕ) where
       either : (i j : ℕ) → (n ≤ i) ⊎ (n ≤ j) → (leb n i || leb n j) ≡ true
       either i j (inl h) = or-left (leb n i) (leb n j) (le-leb n i h)
       either i j (inr h) = or-right (leb n i) (leb n j) (le-leb n j h)
+
+  -- and the other way round
+  pub not-beyond : (t : Terms) → Within N M n m t → beyond N M n m t ≡ false
+  unfolding beyond
+  not-beyond t h =
+      ap₂ (λ (x y : Bool). x || y)
+      (ap₂ (λ (x y : Bool). x || y)
+      (ap₂ (λ (x y : Bool). x || y)
+      (none-of N (λ i. some (λ j. t .product i j && (leb n i || leb n j)) (upTo N))
+      (λ i c. none-of N (λ j. t .product i j && (leb n i || leb n j)) (λ j d. out (t .product i j) (leb n i || leb n j) (λ e. h .noProduct i j c d (late i j e)))))
+      (none-of N (λ i. t .shareA i && leb n i) (λ i c. out (t .shareA i) (leb n i) (λ e. h .noA i c (leb-true n i e)))))
+      (none-of N (λ j. t .shareB j && leb n j) (λ j c. out (t .shareB j) (leb n j) (λ e. h .noB j c (leb-true n j e)))))
+      (none-of M (λ k. t .mask k && leb m k) (λ k c. out (t .mask k) (leb m k) (λ e. h .noMask k c (leb-true m k e))))
+    where
+      none-of : (k : ℕ) (f : ℕ → Bool) → ((i : ℕ) → i < k → f i ≡ false) → some f (upTo k) ≡ false
+      none-of k f g = fold-below _||_ false k f (λ i. false) g ∙ fold-unit _||_ false (λ b. refl) (λ i. false) (upTo k) (λ i. refl)
+
+      out : (p q : Bool) → (q ≡ true → p ≡ false) → (p && q) ≡ false
+      out true true f = f refl
+      out true false f = refl
+      out false q f = refl
+
+      late : (i j : ℕ) → (leb n i || leb n j) ≡ true → (n ≤ i) ⊎ (n ≤ j)
+      late i j e = go (or-cases (leb n i) (leb n j) e)
+        where
+          go : (leb n i ≡ true) ⊎ (leb n j ≡ true) → (n ≤ i) ⊎ (n ≤ j)
+          go (inl p) = inl (leb-true n i p)
+          go (inr p) = inr (leb-true n j p)
 
   pub within-none : Within N M n m none
   within-none = record { noProduct = λ i j c d h. refl; noA = λ i c h. refl; noB = λ j c h. refl; noMask = λ k c h. refl }

@@ -1,6 +1,6 @@
 -- `table::function_check` meets its contract: the tests' refusal, or 20, or what is left of the outer wires' sum and the function's record.
 -- Assumes nothing.
-use mathlib.Core.Path.{sym, _∙_, ap}
+use mathlib.Core.Path.{refl, sym, _∙_, ap}
 use mathlib.Core.Bool.{true, false}
 use borrow.Author.Needs.{needs}
 use Rattle.table.specs.Answers.{tableTold}
@@ -47,7 +47,7 @@ returns-3 c =
     answered _ _ _ _
     (ap tableTold (sym (c .before .before .before .before .before .before .before .enum-told .given .1))
     ∙ c .before .before .before .before .before .before .before .before .before .table-check .ensures)
-    _ true _ _ _ (c .before .before .before .before .before .before .if1 .left) (c .before .before .before .before .before .if2 .left)
+    _ _ true _ _ _ refl (c .before .before .before .before .before .before .if1 .left) (c .before .before .before .before .before .if2 .left)
     (c .before .before .before .before .sum-of-outers .ensures .0) (c .before .before .before .function-record .ensures)
     (c .before .before .added .ensures) (c .before .is-blank .ensures) (c .if3 .taken)
 
@@ -59,7 +59,7 @@ returns-5 c =
     answered _ _ _ _
     (ap tableTold (sym (c .before .before .before .before .before .before .before .enum-told .given .1))
     ∙ c .before .before .before .before .before .before .before .before .before .table-check .ensures)
-    _ false _ _ _ (c .before .before .before .before .before .before .if1 .left) (c .before .before .before .before .before .if2 .left)
+    _ _ false _ _ _ refl (c .before .before .before .before .before .before .if1 .left) (c .before .before .before .before .before .if2 .left)
     (c .before .before .before .before .sum-of-outers .ensures .0) (c .before .before .before .function-record .ensures)
     (c .before .before .added .ensures) (c .before .is-blank .ensures) (c .if3 .left)
 
