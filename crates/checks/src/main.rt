@@ -1,6 +1,6 @@
-// Prints what `table_check` and `function_check` answer on the cases of its input, and how many small sets of an accepted table break: a case is the shares, the masks and the function, a byte
-// each, the table's length in two bytes, the lower first, and the table. `tests/tables.py` writes the input, and works the output out by
-// trying every value of shares and masks.
+// Prints what `table_check` and `function_check` answer on the cases of its input, and how many small sets of an accepted table break. A case
+// is the shares, the masks and the function, a byte each, the table's length in two bytes, the lower first, and the table. `tests/tables.py`
+// writes the input, and works the output out by trying every value of shares and masks.
 ghost use Prim.Native.Nat.{_≤_, _<_};
 ghost use Rattle.records.specs.Layout.{wireCount};
 use records::layout::RECORD_BYTES;

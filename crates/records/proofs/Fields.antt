@@ -33,7 +33,8 @@ pub two-bytes : (l : List ℕ) (at a b : ℕ) → at + 2 ≤ length l → a ≡ 
 two-bytes l at a b h ea eb =
     let e : number (take 2 (drop at l)) ≡ getD l at 0 + 256 * (getD l (at + 1) 0 + 256 * 0) =
     ap (λ (k : List ℕ). number (take 2 k))
-    (step l at (at + 1) (omega arith) (omega arith) ∙ ap {B = List ℕ} (λ (k : List ℕ). getD l at 0 ∷ k) (step l (at + 1) (at + 2) (omega arith) (omega arith))) in
+    (step l at (at + 1) (omega arith) (omega arith) ∙ ap {B =
+    List ℕ} (λ (k : List ℕ). getD l at 0 ∷ k) (step l (at + 1) (at + 2) (omega arith) (omega arith))) in
     omega (arith, ea, eb, e)
 
 pub four-bytes : (l : List ℕ) (at a b c d : ℕ) → at + 4 ≤ length l → a ≡ getD l at 0 → b ≡ getD l (at + 1) 0 → c ≡ getD l (at + 2) 0

@@ -190,7 +190,8 @@ fn payers(table: &[u8], notion: Notion, set: &[u16]) -> usize
     }
 }
 
-// Whether a set of wires breaks a notion. Most sums keep a mask, so the masks come first.
+// Whether a set of wires breaks a notion. Most sums keep a mask, so the masks come first. The set is the caller's: a wire given twice cancels
+// and still pays.
 pub fn set_breaks(table: &[u8], notion: Notion, set: &[u16]) -> bool
     requires { ⌜ inside (now table) (now set) ≡ true ⌝ }
     ensures { λ r. ⌜ r ≡ breaks notion 8 64 (map (wireAt (now (table .entry))) (now (set .entry))) ⌝ }

@@ -179,7 +179,8 @@ accepted-exactly table shares masks = (there, back)
       where
         right : (w : ℕ) → w < wireCount table → wrong w ≡ false
         right w l =
-            ap₂ (λ (x y : Bool). x || y) (not-beyond 8 64 shares masks (wireAt table w .terms) (h .bits w l)) (le-ltb 1 (field 18 1 (recordAt table w)) (h .flag w l))
+            ap₂ (λ (x y : Bool). x || y) (not-beyond 8 64 shares masks (wireAt table w .terms) (h .bits w l))
+            (le-ltb 1 (field 18 1 (recordAt table w)) (h .flag w l))
 
         go : (b : Bool) → some wrong (upTo (wireCount table)) ≡ b → b ≡ false
         go false e = refl
@@ -265,7 +266,8 @@ decided false false false false false false e = refl
 decided false false false false true false e = let z : _≡_ {A = ℕ} 1 0 = cc in absurd (omega (arith, z))
 decided false false false false false true e = let z : _≡_ {A = ℕ} 0 1 = cc in absurd (omega (arith, z))
 
-pub function-means : (answer : FunctionAnswer) (table : List ℕ) (shares masks function : ℕ) → functionTold answer ≡ functionCheck table shares masks function
+pub function-means : (answer : FunctionAnswer) (table : List ℕ) (shares masks function : ℕ)
+    → functionTold answer ≡ functionCheck table shares masks function
     → FunctionMeans answer table shares masks function
 function-means answer table shares masks function e =
     let test = computes function shares masks (wires table) in

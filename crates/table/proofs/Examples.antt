@@ -3,7 +3,7 @@
 --     tableA, tableB, tableC      the tables of the scope's texts: 9, 9 and 6 wires
 use Prim.Native.Nat.{ℕ, _+_}
 use mathlib.Core.Path.{_≡_, refl}
-use mathlib.Core.Bool.{Bool, true, false, xor}
+use mathlib.Core.Bool.{true, false, xor}
 use mathlib.Core.List.{List, [], _∷_, _++_, map}
 use lib.ListN.{replicate}
 use Rattle.basics.specs.Folds.{upTo}
@@ -82,6 +82,12 @@ pub counted-apart : (countA 2 (total (map (wireAt tableB) (0 ∷ []))) ≡ 1) ×
 unfolding countA bit upTo xor
 counted-apart = (refl, refl, refl, refl)
 
+-- s00 + s01 has one row and two columns: byte 0 is row 0
+pub rows-and-columns : let t = total (map (wireAt (record8 3 0 0 0 0 0 0)) (0 ∷ [])) in
+    (countA 2 t ≡ 1) × (countB 2 t ≡ 2) × (t .product 0 1 ≡ true) × (t .product 1 0 ≡ false)
+unfolding countA bit upTo xor
+rows-and-columns = (refl, refl, refl, refl)
+
 -- ---- the limits
 
 -- 11: shares 2 to 8, masks up to 64
@@ -91,10 +97,12 @@ unfolding upTo
 share-limits = (refl, refl)
 
 -- 12: a multiple of 24, up to 12,288; it wins over a record that 13 would turn down, and 11 over it
-pub length-limits : (tableCheck (record8 4 0 0 0 0 0 0 ++ 0 ∷ []) 2 0 ≡ refusal 12) × (tableCheck (replicate 12312 0) 2 0 ≡ refusal 12)
+pub length-limits : (tableCheck (record8 4 0 0 0 0 0 0 ++ 0 ∷ []) 2 0 ≡ refusal 12)
+    × (map (λ n. tableCheck (replicate n 0) 2 0) (8 ∷ 12 ∷ 23 ∷ 36 ∷ []) ≡ replicate 4 (refusal 12))
+    × (tableCheck (replicate 12312 0) 2 0 ≡ refusal 12) × (tableCheck (replicate 12336 0) 2 0 ≡ refusal 12)
     × (wrongLength (replicate 12288 0) ≡ false) × (tableCheck (0 ∷ []) 9 0 ≡ refusal 11)
 unfolding upTo
-length-limits = (refl, refl, refl, refl)
+length-limits = (refl, refl, refl, refl, refl, refl)
 
 -- 13: a column, a row, a share of a, of b, a mask beyond, or a byte 18 of 2; with one share more, one mask more, all but the last are taken
 abbrev beyond-two : List (List ℕ)

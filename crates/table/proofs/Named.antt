@@ -100,7 +100,8 @@ module _ (p m a b : ℕ) (lp : p < 2 ^ 64) (lm : m < 2 ^ 64) (la : a < 2 ^ 8) (l
       placed q h n =
           let e : 8 * (q / 8) + q % 8 ≡ q = omega arith in
           let r : q / 8 < 8 = omega arith in
-          ap (bit p) (sym e) ∙ sym (within-eight (q % 8) (bit p (8 * (q / 8) + q % 8)) (mod-lt q (zero-lt-suc 7))) ∙ n .noProduct (q / 8) (q % 8) r (mod-lt q (zero-lt-suc 7))
+          ap (bit p) (sym e) ∙ sym (within-eight (q % 8) (bit p (8 * (q / 8) + q % 8)) (mod-lt q (zero-lt-suc 7)))
+          ∙ n .noProduct (q / 8) (q % 8) r (mod-lt q (zero-lt-suc 7))
 
       back : blank 8 64 (decodeTerms p m a b) ≡ true → (eqb m 0 && eqb p 0 && eqb a 0 && eqb b 0) ≡ true
       back e =

@@ -1,4 +1,4 @@
-// The test of a table's records, and the comparison with a function's record.
+// The test of a table's records.
 ghost use mathlib.Core.Path.{_≡_};
 ghost use mathlib.Core.Bool.{not, _&&_};
 ghost use Prim.Native.Nat.{_<_};

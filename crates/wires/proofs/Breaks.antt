@@ -9,12 +9,12 @@ use native.Mathlib.Nat.{zero-add}
 use native.Mathlib.Omega.{arith}
 use mathlib.Core.Path.{_≡_, refl, sym, _∙_, ap, ap₂}
 use mathlib.Core.Logic.{_↔_, _⊎_, inl, inr}
-use mathlib.Core.Bool.{Bool, true, false, cond, not, _&&_, _||_, xor, or-comm, true≢false}
+use mathlib.Core.Bool.{Bool, true, false, cond, not, _&&_, _||_, or-comm}
 use mathlib.Core.List.{List, [], _∷_, map}
 use borrow.Author.Tests.{ltb-true, lt-ltb, not-true}
 use lib.Dec.{ltb}
 use lib.ListN.{length}
-use Rattle.basics.specs.Folds.{some, count, oneIf, upTo}
+use Rattle.basics.specs.Folds.{some, oneIf, upTo}
 use Rattle.basics.proofs.Tests.{and-left, and-right, and-both, or-left, or-right, or-cases}
 use Rattle.basics.proofs.Folds.{fold-map, fold-hom, fold-unit, some-where, never}
 use Rattle.wires.specs.declared.Notion.{Notion}
@@ -75,7 +75,8 @@ pub breaks-swap : (notion : Notion) (n m : ℕ) (s : List Wire) → breaks notio
 unfolding breaks masked
 breaks-swap notion n m s =
     ap₂ (λ (k : ℕ) (t : Terms). not (masked m t) && (ltb k (countA n t) || ltb k (countB n t))) (paid notion) sums
-    ∙ ap (λ (z : Bool). not (masked m (total s)) && z) (or-comm (ltb (allowed notion s) (countB n (total s))) (ltb (allowed notion s) (countA n (total s))))
+    ∙ ap (λ (z : Bool). not (masked m (total s)) && z)
+    (or-comm (ltb (allowed notion s) (countB n (total s))) (ltb (allowed notion s) (countA n (total s))))
   where
     sums : total (map swapWire s) ≡ swap (total s)
     sums = fold-map plus none swapWire (λ w. w .terms) s ∙ sym (fold-hom plus none plus none swap refl (λ t u. refl) (λ w. w .terms) s)

@@ -60,7 +60,8 @@ mask-taken-away = (refl, refl, refl, refl)
 
 -- both shares of b
 pub both-of-b : let secret = swap (plus (of-share 0) (of-share 1)) in
-    (breaks Ni 2 1 (inner secret ∷ []) ≡ true) × (breaks Sni 2 1 (outer-wire secret ∷ []) ≡ true) × (breaks Ni 2 1 (inner secret ∷ inner none ∷ []) ≡ false)
+    (breaks Ni 2 1 (inner secret ∷ []) ≡ true) × (breaks Sni 2 1 (outer-wire secret ∷ []) ≡ true)
+    × (breaks Ni 2 1 (inner secret ∷ inner none ∷ []) ≡ false)
 unfolding breaks countA masked upTo xor
 both-of-b = (refl, refl, refl)
 

@@ -3,14 +3,14 @@
 --     value-of-product, value-of-share, value-of-mask     their values: the product of the two shares, the share, the mask
 --     value-of-share-b                            a share of b
 use Prim.Native.Nat.{ℕ, _<_}
-use mathlib.Core.Path.{_≡_, refl, sym, _∙_, ap, ap₂}
-use mathlib.Core.Bool.{Bool, true, false, cond, _&&_, xor, and-comm}
+use mathlib.Core.Path.{_≡_, refl, _∙_, ap, ap₂}
+use mathlib.Core.Bool.{Bool, true, false, cond, _&&_, xor}
 use mathlib.Core.List.{List}
 use lib.Dec.{eqb}
-use Rattle.basics.specs.Folds.{fold, parity, upTo}
+use Rattle.basics.specs.Folds.{parity, upTo}
 use Rattle.basics.proofs.Tests.{xor-false, false-xor}
 use Rattle.basics.proofs.Folds.{fold-cong, fold-unit}
-use Rattle.wires.specs.Wires.{Terms, Input, value, none, swap, swapInput}
+use Rattle.wires.specs.Wires.{Terms, Input, value, swap, swapInput}
 use Rattle.wires.proofs.Value.{value-swap}
 use Rattle.wires.proofs.Dependence.{parity-pick}
 
@@ -62,7 +62,8 @@ module _ (n m : ℕ) (x : Input) (r : ℕ → Bool) where
 
       products : parity (λ k. parity (λ t. eqb k i && eqb t j && (x .ofA k && x .ofB t)) (upTo n)) (upTo n) ≡ (x .ofA i && x .ofB j)
       products =
-          fold-cong xor false (λ k. parity (λ t. eqb k i && eqb t j && (x .ofA k && x .ofB t)) (upTo n)) (λ k. eqb k i && (x .ofA k && x .ofB j)) (upTo n)
+          fold-cong xor false (λ k. parity (λ t. eqb k i && eqb t j && (x .ofA k && x .ofB t)) (upTo n)) (λ k. eqb k i && (x .ofA k && x .ofB j))
+          (upTo n)
           (λ k. row (eqb k i) k)
           ∙ picked n i (λ k. x .ofA k && x .ofB j) h
 

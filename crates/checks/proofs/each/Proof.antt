@@ -4,10 +4,6 @@ use borrow.Author.Needs.{needs}
 use lib.ListN.{length}
 use Rattle.checks.proofs.each.Statement.{statement}
 use Rattle.checks.proofs.each.Tie as tie
-use Rattle.checks.proofs.each.Reads as reads
-use Rattle.checks.proofs.each.Lts as lts
-use Rattle.checks.proofs.tell.Reads as tell-reads
-use Rattle.checks.proofs.wide.Reads as wide-reads
 
 abbrev Inv-loop : tie.InvT-loop
 Inv-loop cases at₀ at = at ≤ length cases

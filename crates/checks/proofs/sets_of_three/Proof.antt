@@ -1,14 +1,10 @@
+-- `checks::sets_of_three` is safe and ends: its first wire stays within the table. Assumes nothing.
 use Prim.Native.Nat.{_-_, _≤_}
 use native.Mathlib.Nat.{le-trans}
-use Rattle.records.proofs.Bytes.{inside-none, inside-more}
 use borrow.Author.Needs.{needs}
+use Rattle.records.proofs.Bytes.{inside-none, inside-more}
 use Rattle.checks.proofs.sets_of_three.Statement.{statement}
 use Rattle.checks.proofs.sets_of_three.Tie as tie
-use Rattle.checks.proofs.sets_of_three.Reads as reads
-use Rattle.checks.proofs.sets_of_three.Lts as lts
-use Rattle.checks.proofs.more.Reads as more-reads
-use Rattle.checks.proofs.with_first.Reads as with-first-reads
-use Rattle.records.proofs.sums.set_breaks.Reads as set-breaks-reads
 
 abbrev Inv-loop : tie.InvT-loop
 Inv-loop table notion wires count₀ i₀ count i = i ≤ wires

@@ -1,13 +1,10 @@
+-- `checks::with_two` is safe and ends: its third wire stays within the table. Assumes nothing.
 use Prim.Native.Nat.{_-_, _≤_}
 use native.Mathlib.Nat.{le-trans}
-use Rattle.records.proofs.Bytes.{inside-none, inside-more}
 use borrow.Author.Needs.{needs}
+use Rattle.records.proofs.Bytes.{inside-none, inside-more}
 use Rattle.checks.proofs.with_two.Statement.{statement}
 use Rattle.checks.proofs.with_two.Tie as tie
-use Rattle.checks.proofs.with_two.Reads as reads
-use Rattle.checks.proofs.with_two.Lts as lts
-use Rattle.checks.proofs.more.Reads as more-reads
-use Rattle.records.proofs.sums.set_breaks.Reads as set-breaks-reads
 
 abbrev Inv-loop : tie.InvT-loop
 Inv-loop table notion wires i j so-far count₀ k₀ count k = k ≤ wires
@@ -34,7 +31,10 @@ slice-aggregate-set-breaks : tie.Need-slice-aggregate-set-breaks Inv-loop μ-loo
 slice-aggregate-set-breaks c = search needs
 
 set-breaks-requires : tie.Need-set-breaks-requires Inv-loop μ-loop
-set-breaks-requires c κs = inside-more _ _ _ (le-trans (c .before .before .before .before .pre .2) (c .before .before .before .before .pre .1)) (inside-more _ _ _ (le-trans (c .before .before .before .before .pre .3) (c .before .before .before .before .pre .1)) (inside-more _ _ _ (le-trans (c .before .loop-test .taken) (c .before .before .before .before .pre .1)) (inside-none _)))
+set-breaks-requires c κs =
+    inside-more _ _ _ (le-trans (c .before .before .before .before .pre .2) (c .before .before .before .before .pre .1))
+    (inside-more _ _ _ (le-trans (c .before .before .before .before .pre .3) (c .before .before .before .before .pre .1))
+    (inside-more _ _ _ (le-trans (c .before .loop-test .taken) (c .before .before .before .before .pre .1)) (inside-none _)))
 
 more-requires : tie.Need-more-requires Inv-loop μ-loop
 more-requires c κs = search needs

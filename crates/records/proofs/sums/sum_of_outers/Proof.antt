@@ -1,6 +1,6 @@
 -- `records::sums::sum_of_outers` meets its contract: after a wire the sum is that of the outer ones up to it.
 -- Assumes nothing.
-use Prim.Native.Nat.{ℕ, _-_, _≤_, zero-le}
+use Prim.Native.Nat.{_-_, _≤_, zero-le}
 use native.Mathlib.Omega.{arith}
 use mathlib.Core.List.{map}
 use mathlib.Core.Path.{_≡_, sym, _∙_, ap}
