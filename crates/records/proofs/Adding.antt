@@ -34,14 +34,14 @@ use Rattle.records.proofs.Fields.{field-at, byte-at, record-inside}
 
 pub words-zero : decodeTerms 0 0 0 0 ≡ none
 words-zero =
-    terms-ext (decodeTerms 0 0 0 0) none (λ i j. ap (λ (b : Bool). ltb j 8 && b) (bit-zero (8 * i + j)) ∙ and-false (ltb j 8)) bit-zero bit-zero
+    terms-ext (decodeTerms 0 0 0 0) none (λ i j. ap (λ (b : Bool). ltb j 8 && b) (bit-zero _) ∙ and-false (ltb j 8)) bit-zero bit-zero
     bit-zero
 
 pub words-added : (p q k l a c b d : ℕ)
     → decodeTerms (bitXor p q) (bitXor k l) (bitXor a c) (bitXor b d) ≡ plus (decodeTerms p k a b) (decodeTerms q l c d)
 words-added p q k l a c b d =
     terms-ext (decodeTerms (bitXor p q) (bitXor k l) (bitXor a c) (bitXor b d)) (plus (decodeTerms p k a b) (decodeTerms q l c d))
-    (λ i j. ap (λ (b : Bool). ltb j 8 && b) (bit-xor p q (8 * i + j)) ∙ xor-and (ltb j 8) (bit p (8 * i + j)) (bit q (8 * i + j))) (bit-xor a c)
+    (λ i j. ap (λ (b : Bool). ltb j 8 && b) (bit-xor p q _) ∙ xor-and (ltb j 8) (bit p _) (bit q _)) (bit-xor a c)
     (bit-xor b d) (bit-xor k l)
 
 pub words-of-record : (table : List ℕ) (wire p k a b : ℕ) → wire < wireCount table → p ≡ number (take 8 (drop (24 * wire) table))
