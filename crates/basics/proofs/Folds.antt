@@ -9,7 +9,7 @@
 --     fold-narrow                          numbers from n on add nothing
 --     keep-append                          what is kept of a list in two parts
 --     every-place                          what holds of every element holds at a place
---     some-at, some-where, never, none-more, every-at, every-below     what holds of some number below n, of none, of every one
+--     some-at, some-where, never, none-below, none-more, every-at, every-below     what holds of some number below n, of none, of every one
 use Prim.Native.Nat.{ℕ, zero, suc, _+_, _≤_, _<_, suc-le-suc, zero-le}
 use native.Mathlib.Nat.{not-suc-le-zero, le-of-suc-le-suc, zero-lt-suc, zero-add, suc-add}
 use native.Mathlib.Omega.{arith}
@@ -185,6 +185,9 @@ every-below zero f h = refl
 every-below (suc n) f h =
     fold-first _&&_ true n f
     ∙ and-both (f 0) (every (λ i. f (suc i)) (upTo n)) (h 0 (zero-lt-suc n)) (every-below n (λ i. f (suc i)) (λ i k. h (suc i) (suc-le-suc k)))
+
+pub none-below : (n : ℕ) (f : ℕ → Bool) → ((i : ℕ) → i < n → f i ≡ false) → some f (upTo n) ≡ false
+none-below n f h = fold-below _||_ false n f (λ i. false) h ∙ fold-unit _||_ false (λ b. refl) (λ i. false) (upTo n) (λ i. refl)
 
 pub none-more : (n : ℕ) (f : ℕ → Bool) → some f (upTo n) ≡ false → f n ≡ false → some f (upTo (n + 1)) ≡ false
 none-more n f p q =

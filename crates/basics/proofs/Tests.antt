@@ -2,7 +2,6 @@
 --     and-left, and-right, and-both            a conjunction and its parts
 --     or-left, or-right, or-cases, or-none     a disjunction and its parts
 --     bool-ext                                 two tests that pass together are equal
---     true-or-false                            a test passes or fails
 --     xor-false, false-xor, xor-comm, xor-assoc, xor-self, xor-same     bits added without carry
 --     xor-two                                  two sums added part by part
 --     and-xor, xor-and                         the product of a sum
@@ -43,10 +42,6 @@ pub bool-ext : (a b : Bool) → (a ≡ true → b ≡ true) → (b ≡ true → 
 bool-ext true b f g = sym (f refl)
 bool-ext false true f g = g refl
 bool-ext false false f g = refl
-
-pub true-or-false : (a : Bool) → (a ≡ true) ⊎ (a ≡ false)
-true-or-false true = inl refl
-true-or-false false = inr refl
 
 pub xor-false : (a : Bool) → xor a false ≡ a
 unfolding xor

@@ -4,6 +4,7 @@
 --     some f l          whether f x for some x of l
 --     every f l         whether f x for every x of l
 --     count f l         for how many places of l the test f passes
+--     oneIf b           1 where the test passes, else 0
 --     keep f l          the elements x of l with f x, in their order
 --     upTo n            0, 1, …, n - 1
 use Prim.Native.Nat.{ℕ, zero, suc, _+_}

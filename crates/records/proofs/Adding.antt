@@ -12,13 +12,13 @@
 use Prim.Native.Nat.{ℕ, zero, suc, _+_, _*_, _≤_, _<_}
 use native.Mathlib.Nat.{zero-add, add-zero, add-assoc}
 use native.Mathlib.Omega.{arith}
-use mathlib.Core.Path.{_≡_, refl, sym, _∙_, ap, ap₂}
+use mathlib.Core.Path.{_≡_, sym, _∙_, ap, ap₂}
 use mathlib.Core.Bool.{Bool, true, false, cond, not, _&&_, and-false}
 use mathlib.Core.List.{List, [], _∷_, _++_, map, map-append}
 use lib.Bits.{bitXor}
 use borrow.Author.Tests.{ltb-true}
 use lib.Dec.{ltb}
-use lib.ListN.{length, take, drop, getD}
+use lib.ListN.{length, take, drop, getD, length-map}
 use lib.Seq.{take-all}
 use Rattle.basics.specs.Folds.{oneIf, upTo}
 use Rattle.basics.proofs.Tests.{xor-and}
@@ -27,6 +27,7 @@ use Rattle.wires.specs.declared.Notion.the-variants.{Ni, Sni}
 use Rattle.wires.specs.Wires.{Terms, Wire, none, plus, total, SumOfValues, allowed}
 use Rattle.wires.specs.Function.{outers}
 use Rattle.wires.proofs.Value.{terms-ext, plus-none, none-plus, plus-assoc, sum-of-values}
+use Rattle.wires.proofs.Breaks.{allowed-ni}
 use Rattle.records.specs.Words.{bit, number}
 use Rattle.records.specs.Layout.{decodeTerms, field, recordAt, wireAt, wireCount, wires, inside}
 use Rattle.records.proofs.Words.{bit-zero, bit-xor}
@@ -132,5 +133,4 @@ pub whole-count : (table set : List ℕ) (i k : ℕ) → length set ≤ i → k 
 whole-count table set i k h e = e ∙ ap (λ l. allowed Sni (map (wireAt table) l)) (take-all i set h)
 
 pub all-pay : (table set : List ℕ) → length set ≡ allowed Ni (map (wireAt table) set)
-all-pay table [] = refl
-all-pay table (x ∷ set) = let more : suc (length set) ≡ 1 + length set = omega arith in more ∙ ap (λ (k : ℕ). 1 + k) (all-pay table set)
+all-pay table set = sym (allowed-ni (map (wireAt table) set) ∙ length-map set (wireAt table))

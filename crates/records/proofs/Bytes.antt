@@ -1,4 +1,5 @@
 -- What stands in which byte of a record, and which records a table has.
+--     Bytes                             every number of a list is a byte
 --     number-bit                        bit 8 i + j of a little-endian number is bit j of byte i
 --     product-at, mask-at, share-a-at, share-b-at, outer-at     the terms of a record and its flag, byte by byte
 --     wires-none, wires-more            the wires of a table: none, or that of the first 24 bytes and those of the rest

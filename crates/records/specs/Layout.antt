@@ -1,6 +1,8 @@
 -- How a wire stands in a table (scope, "Wires"): records of 24 bytes with no header, numbers little-endian. Bytes 19 to 23 (output line,
 -- offset and length in the text) have no part in what a wire is.
 --     field at size r     the number of `size` bytes of a record, from byte `at` on
+--     recordBytes         the length of a record
+--     decodeTerms         the terms of its four fields: products, masks, shares of a, shares of b
 --     decode r            the wire that a record's 24 bytes are
 --     lineOf, offsetOf, lengthOf     what a record says of the text
 --     recordAt, wireAt    the record of a wire of a table, and the wire

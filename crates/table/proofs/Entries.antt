@@ -4,10 +4,12 @@
 --     records-decide               where the numbers and the length are right, the records decide
 --     accepted, tested-answer      where the tests pass, the operation's own answer stands
 --     tested-refusal               where they do not, their refusal stands
+--     shares-low, shares-high, masks-high       the limits of an accepted table
 --     wire-within, set-within, table-within     an accepted record has no bit beyond shares and masks
 --     set-decided                  the breaking test over all bits of a record is that over the gadget's shares and masks
 --     function-decided             what the code compares decides the function
 --     function-means               what yes and no say of values follows from the equation
+--     Promise                      the whole of the entry's promise
 --     refused-before, function-low, function-high, answered     the entry's answers
 use Prim.Native.Nat.{ℕ, _%_, _≤_, _<_}
 use native.Mathlib.Nat.{le-trans}
@@ -22,7 +24,7 @@ use lib.Dec.{ltb, leb, eqb}
 use Rattle.basics.specs.Folds.{some, every, keep, oneIf, upTo}
 use Rattle.basics.specs.Told.{Told, values, refusal}
 use Rattle.basics.proofs.Tests.{and-left, and-right, or-none, bool-ext}
-use Rattle.basics.proofs.Folds.{some-where, never, every-below}
+use Rattle.basics.proofs.Folds.{never, none-below, every-below}
 use Rattle.wires.specs.declared.Notion.{Notion}
 use Rattle.wires.specs.Wires.{Terms, Wire, plus, total, breaks, beyond}
 use Rattle.wires.specs.Function.{functionTerms, outers, blank, computes}
@@ -175,16 +177,10 @@ accepted-exactly table shares masks = (there, back)
         }
 
     none-wrong : Sound table shares masks → some wrong (upTo (wireCount table)) ≡ false
-    none-wrong h = go (some wrong (upTo (wireCount table))) refl
-      where
-        right : (w : ℕ) → w < wireCount table → wrong w ≡ false
-        right w l =
-            ap₂ (λ (x y : Bool). x || y) (not-beyond 8 64 shares masks (wireAt table w .terms) (h .bits w l))
-            (le-ltb 1 (field 18 1 (recordAt table w)) (h .flag w l))
-
-        go : (b : Bool) → some wrong (upTo (wireCount table)) ≡ b → b ≡ false
-        go false e = refl
-        go true e = let f = some-where (wireCount table) wrong e in sym (f .2) ∙ right (f .0) (f .1)
+    none-wrong h =
+        none-below (wireCount table) wrong
+        (λ w l. ap₂ (λ (x y : Bool). x || y) (not-beyond 8 64 shares masks (wireAt table w .terms) (h .bits w l))
+        (le-ltb 1 (field 18 1 (recordAt table w)) (h .flag w l)))
 
     back : Sound table shares masks → values [] ≡ tableCheck table shares masks
     back h = records-decide table shares masks false (h .low) (h .high) (h .few) (h .whole) (h .short) (sym (ap not (none-wrong h)))

@@ -6,13 +6,14 @@ use Prim.Native.Nat.{ℕ, _+_, _*_, _≤_, _<_}
 use native.Mathlib.Nat.{lt-of-lt-of-le}
 use native.Mathlib.Omega.{arith}
 use mathlib.Core.Path.{_≡_, refl, sym, _∙_, ap, ap₂}
-use mathlib.Core.Bool.{Bool, true, false, not, _&&_, _||_, or-assoc, or-comm, or-false, false≢true}
+use mathlib.Core.Bool.{Bool, true, false, not, _&&_, _||_, or-assoc, or-comm, or-false, and-false, and-or-distrib-left, and-or-distrib-right}
 use mathlib.Core.List.{List}
 use borrow.Author.Tests.{lt-leb, le-ltb, lt-ltb, leb-true, leb-false, not-true, not-false}
 use lib.Dec.{leb, ltb}
 use lib.ListN.{getD}
 use Rattle.basics.specs.Folds.{some, upTo}
-use Rattle.basics.proofs.Folds.{fold-cong, fold-hom, fold-unit, fold-both, fold-exchange, fold-below, fold-narrow}
+use Rattle.basics.proofs.Tests.{or-left, or-right}
+use Rattle.basics.proofs.Folds.{fold-cong, fold-hom, fold-both, fold-exchange, fold-below, fold-narrow, none-below}
 use Rattle.wires.specs.Wires.{Terms, swap, dependsA, dependsB, beyond}
 use Rattle.records.specs.Words.{bit}
 use Rattle.records.specs.Layout.{field, decodeTerms, recordAt, wireAt, wireCount}
@@ -24,31 +25,16 @@ pub limit-past : (w s : ℕ) → 64 ≤ s → true ≡ not (some (λ k. bit w k 
 limit-past w s h =
     sym
     (ap not
-    (fold-below _||_ false 64 (λ k. bit w k && leb s k) (λ k. false)
-    (λ k l. ap (λ (b : Bool). bit w k && b) (lt-leb s k (lt-of-lt-of-le l h)) ∙ and-none (bit w k))
-    ∙ fold-unit _||_ false (λ b. refl) (λ k. false) (upTo 64) (λ k. refl)))
-  where
-    and-none : (b : Bool) → (b && false) ≡ false
-    and-none true = refl
-    and-none false = refl
+    (none-below 64 (λ k. bit w k && leb s k)
+    (λ k l. ap (λ (b : Bool). bit w k && b) (lt-leb s k (lt-of-lt-of-le l h)) ∙ and-false (bit w k))))
 
 -- ---- unions of tests
 
 some-both : {A : Type 0} (f g : A → Bool) (l : List A) → some (λ x. f x || g x) l ≡ (some f l || some g l)
 some-both = fold-both _||_ false (λ b. refl) or-comm or-assoc
 
-and-or : (a b c : Bool) → ((a || b) && c) ≡ (a && c || b && c)
-and-or true b true = refl
-and-or true true false = refl
-and-or true false false = refl
-and-or false b c = refl
-
-or-and : (a b c : Bool) → (a && (b || c)) ≡ (a && b || a && c)
-or-and true b c = refl
-or-and false b c = refl
-
 some-and : {A : Type 0} (c : Bool) (f : A → Bool) (l : List A) → (some f l && c) ≡ some (λ x. f x && c) l
-some-and c = fold-hom _||_ false _||_ false (λ (b : Bool). b && c) refl (λ a b. and-or a b c)
+some-and c = fold-hom _||_ false _||_ false (λ (b : Bool). b && c) refl (λ a b. and-or-distrib-right a b c)
 
 -- a row or a single bit beyond
 rows-beyond : (t : Terms) (n : ℕ) (late : ℕ → Bool)
@@ -56,7 +42,7 @@ rows-beyond : (t : Terms) (n : ℕ) (late : ℕ → Bool)
     ≡ (some (λ i. some (λ j. t .product i j && late i) (upTo n)) (upTo n) || some (λ i. t .shareA i && late i) (upTo n))
 rows-beyond t n late =
     fold-cong _||_ false (λ i. dependsA n t i && late i) (λ i. some (λ j. t .product i j && late i) (upTo n) || t .shareA i && late i) (upTo n)
-    (λ i. and-or (some (t .product i) (upTo n)) (t .shareA i) (late i)
+    (λ i. and-or-distrib-right (some (t .product i) (upTo n)) (t .shareA i) (late i)
     ∙ ap (λ (b : Bool). b || t .shareA i && late i) (some-and (late i) (t .product i) (upTo n)))
     ∙ some-both (λ i. some (λ j. t .product i j && late i) (upTo n)) (λ i. t .shareA i && late i) (upTo n)
 
@@ -68,7 +54,7 @@ products-beyond t n late =
     fold-cong _||_ false (λ i. some (λ j. t .product i j && (late i || late j)) (upTo n))
     (λ i. some (λ j. t .product i j && late i) (upTo n) || some (λ j. t .product i j && late j) (upTo n)) (upTo n)
     (λ i. fold-cong _||_ false (λ j. t .product i j && (late i || late j)) (λ j. t .product i j && late i || t .product i j && late j) (upTo n)
-    (λ j. or-and (t .product i j) (late i) (late j))
+    (λ j. and-or-distrib-left (t .product i j) (late i) (late j))
     ∙ some-both (λ j. t .product i j && late i) (λ j. t .product i j && late j) (upTo n))
     ∙ some-both (λ i. some (λ j. t .product i j && late i) (upTo n)) (λ i. some (λ j. t .product i j && late j) (upTo n)) (upTo n)
     ∙ ap (λ (b : Bool). some (λ i. some (λ j. t .product i j && late i) (upTo n)) (upTo n) || b)
@@ -122,31 +108,27 @@ module _ (table : List ℕ) (wire n m p k a b wa wb : ℕ) (inside : wire < wire
       ∙ ap₂ (λ (x : Bool) (y : ℕ). x || ltb 1 y) (sym (beyond-words (decodeTerms p k a b) n m wa wb k la ea lb eb (λ i. refl)))
       (sym (outer-byte table wire inside))
 
+  abbrev flag : Bool
+  flag = ltb 1 (getD table (24 * wire + 18) 0)
+
+  -- one of the three words goes beyond its limit
+  refused : (x l : Bool) → x ≡ not l → x ≡ false → (l ≡ true → (late wa n || late wb n || late k m || flag) ≡ true)
+      → false ≡ not (wrongRecord n m (recordAt table wire))
+  refused x l e f one = sym (ap not (found ∙ one (not-false l (sym e ∙ f))))
+
   pub a-beyond : (x : Bool) → x ≡ not (late wa n) → x ≡ false → false ≡ not (wrongRecord n m (recordAt table wire))
-  a-beyond x ex f =
-      sym (ap not (found ∙ first (late wa n) (late wb n) (late k m) (ltb 1 (getD table (24 * wire + 18) 0)) (not-false (late wa n) (sym ex ∙ f))))
-    where
-      first : (x y z w : Bool) → x ≡ true → (x || y || z || w) ≡ true
-      first true y z w e = refl
-      first false y z w e = absurd (false≢true e)
+  a-beyond x e f =
+      refused x (late wa n) e f
+      (λ l. or-left (late wa n || late wb n || late k m) flag (or-left (late wa n || late wb n) (late k m) (or-left (late wa n) (late wb n) l)))
 
-  pub b-beyond : (y : Bool) → y ≡ not (late wb n) → y ≡ false → false ≡ not (wrongRecord n m (recordAt table wire))
-  b-beyond y ey f =
-      sym (ap not (found ∙ second (late wa n) (late wb n) (late k m) (ltb 1 (getD table (24 * wire + 18) 0)) (not-false (late wb n) (sym ey ∙ f))))
-    where
-      second : (x y z w : Bool) → y ≡ true → (x || y || z || w) ≡ true
-      second true y z w e = refl
-      second false true z w e = refl
-      second false false z w e = absurd (false≢true e)
+  pub b-beyond : (x : Bool) → x ≡ not (late wb n) → x ≡ false → false ≡ not (wrongRecord n m (recordAt table wire))
+  b-beyond x e f =
+      refused x (late wb n) e f
+      (λ l. or-left (late wa n || late wb n || late k m) flag (or-left (late wa n || late wb n) (late k m) (or-right (late wa n) (late wb n) l)))
 
-  pub mask-beyond : (z : Bool) → z ≡ not (late k m) → z ≡ false → false ≡ not (wrongRecord n m (recordAt table wire))
-  mask-beyond z ez f =
-      sym (ap not (found ∙ third (late wa n || late wb n) (late k m) (ltb 1 (getD table (24 * wire + 18) 0)) (not-false (late k m) (sym ez ∙ f))))
-    where
-      third : (x z w : Bool) → z ≡ true → (x || z || w) ≡ true
-      third true z w e = refl
-      third false true w e = refl
-      third false false w e = absurd (false≢true e)
+  pub mask-beyond : (x : Bool) → x ≡ not (late k m) → x ≡ false → false ≡ not (wrongRecord n m (recordAt table wire))
+  mask-beyond x e f =
+      refused x (late k m) e f (λ l. or-left (late wa n || late wb n || late k m) flag (or-right (late wa n || late wb n) (late k m) l))
 
   pub then-the-flag : (x y z : Bool) → x ≡ not (late wa n) → y ≡ not (late wb n) → z ≡ not (late k m) → x ≡ true → y ≡ true → z ≡ true
       → leb (getD table (24 * wire + 18) 0) 1 ≡ not (wrongRecord n m (recordAt table wire))

@@ -16,7 +16,7 @@ use lib.Dec.{ltb}
 use lib.ListN.{length}
 use Rattle.basics.specs.Folds.{some, oneIf, upTo}
 use Rattle.basics.proofs.Tests.{and-left, and-right, and-both, or-left, or-right, or-cases}
-use Rattle.basics.proofs.Folds.{fold-map, fold-hom, fold-unit, some-where, never}
+use Rattle.basics.proofs.Folds.{fold-map, fold-hom, fold-unit, none-below, never}
 use Rattle.wires.specs.declared.Notion.{Notion}
 use Rattle.wires.specs.declared.Notion.the-variants.{Ni, Sni}
 use Rattle.wires.specs.Wires.{Terms, Wire, none, plus, total, swap, countA, countB, masked, allowed, breaks}
@@ -58,12 +58,8 @@ module _ (notion : Notion) (n m : ℕ) (s : List Wire) where
           go (inr p) = inr (ltb-true (allowed notion s) (countB n (total s)) p)
 
       back : Breaks notion n m s → breaks notion n m s ≡ true
-      back h = and-both (not (masked m (total s))) (a || b) (ap not (free (masked m (total s)) refl)) (go (h .exceeds))
+      back h = and-both (not (masked m (total s))) (a || b) (ap not (none-below m (total s .mask) (h .unmasked))) (go (h .exceeds))
         where
-          free : (c : Bool) → masked m (total s) ≡ c → c ≡ false
-          free false e = refl
-          free true e = let w = some-where m (total s .mask) e in sym (w .2) ∙ h .unmasked (w .0) (w .1)
-
           go : (allowed notion s < countA n (total s)) ⊎ (allowed notion s < countB n (total s)) → (a || b) ≡ true
           go (inl p) = or-left a b (lt-ltb (allowed notion s) (countA n (total s)) p)
           go (inr p) = or-right a b (lt-ltb (allowed notion s) (countB n (total s)) p)

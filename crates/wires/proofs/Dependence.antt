@@ -1,4 +1,5 @@
 -- What dependence means: once for a, and for b with the operands exchanged.
+--     parity-pick, parity-one, parity-never     sums in which one bit alone, or none, takes part
 --     rate                the bit by which the value changes with share i of a
 --     value-flip          the value of the input with that share changed
 --     seen                where terms depend on share i of a, some input makes the rate 1
@@ -6,7 +7,8 @@
 --     depends-exactly     terms depend on share i of a exactly when two inputs that differ only there give them different values
 --     depends-exactly-b   the same for share j of b
 --     zero-blank          terms whose value is 0 everywhere have no bit set
---     NoBits              no bit is set; blank-bits, bits-blank: that is what the test says
+--     NoBits              no bit is set
+--     blank-bits, bits-blank     that is what the test says
 --     bits-zero, blank-zero     then the value is 0 everywhere
 use Prim.Native.Nat.{ℕ, _<_}
 use mathlib.Core.Path.{_≡_, refl, sym, _∙_, ap, ap₂}
@@ -17,10 +19,10 @@ use borrow.Author.Tests.{not-true, eqb-true}
 use lib.Dec.{eqb}
 use Rattle.basics.specs.Folds.{parity, some, upTo}
 use Rattle.basics.proofs.Tests.{or-none, xor-false, false-xor, xor-two, xor-and, and-xor, and-cond}
-use Rattle.basics.proofs.Folds.{fold-cong, fold-unit, fold-pick, some-where, never}
+use Rattle.basics.proofs.Folds.{fold-cong, fold-pick, some-where, none-below, never}
 use Rattle.wires.specs.Wires.{Terms, Input, value, none, swap, swapInput, flipA, flipB, dependsA, dependsB, masked}
 use Rattle.wires.specs.Function.{blank}
-use Rattle.wires.proofs.Value.{parity-both, value-none, value-below, value-swap, value-agree}
+use Rattle.wires.proofs.Value.{parity-none, parity-both, value-none, value-below, value-swap, value-agree}
 
 abbrev pub rate : ℕ → Input → Terms → ℕ → Bool
 rate n x t i = xor (parity (λ j. t .product i j && x .ofB j) (upTo n)) (t .shareA i)
@@ -33,7 +35,7 @@ parity-one n k f h =
     fold-cong xor false (λ i. f i && eqb i k) (λ i. cond (eqb i k) (f i) false) (upTo n) (λ i. and-cond (f i) (eqb i k)) ∙ parity-pick n k f h
 
 pub parity-never : {A : Type 0} (f : A → Bool) (l : List A) → parity (λ x. f x && false) l ≡ false
-parity-never f l = fold-unit xor false false-xor (λ x. f x && false) l (λ x. and-false (f x))
+parity-never f l = parity-none (λ x. f x && false) l (λ x. and-false (f x))
 
 module _ (n m i : ℕ) (below : i < n) (x : Input) (r : ℕ → Bool) (t : Terms) where
   -- one row of the products: with share k changed where c says so, the row's sum with b's shares is added
@@ -148,36 +150,28 @@ module _ (n m : ℕ) (t : Terms) where
   masks-alone r =
       let rest = parity (λ k. t .mask k && r k) (upTo m) in
       ap₂ xor
-      (fold-unit xor false false-xor (λ i. parity (λ j. t .product i j && false) (upTo n)) (upTo n) (λ i. parity-never (t .product i) (upTo n)))
+      (parity-none (λ i. parity (λ j. t .product i j && false) (upTo n)) (upTo n) (λ i. parity-never (t .product i) (upTo n)))
       (ap₂ xor (parity-never (t .shareA) (upTo n)) (ap (λ (z : Bool). xor z rest) (parity-never (t .shareB) (upTo n))))
       ∙ false-xor (xor false (xor false rest)) ∙ false-xor (xor false rest) ∙ false-xor rest
 
   pub zero-blank : ((x : Input) (r : ℕ → Bool) → value n m x r t ≡ false) → blank n m t ≡ true
   unfolding masked
   zero-blank zero =
-      ap₂ (λ (b c : Bool). not (b || c || masked m t)) (no-share (some (dependsA n t) (upTo n)) refl) (no-share-b (some (dependsB n t) (upTo n)) refl)
-      ∙ ap not (no-mask (masked m t) refl)
+      ap₂ (λ (b c : Bool). not (b || c || masked m t)) (no-share t zero)
+      (no-share (swap t) (λ x r. value-swap n m (swapInput x) r t ∙ zero (swapInput x) r))
+      ∙ ap not (none-below m (t .mask) no-mask)
     where
-      no-share : (b : Bool) → some (dependsA n t) (upTo n) ≡ b → b ≡ false
-      no-share false e = refl
-      no-share true e =
-          let w = some-where n (dependsA n t) e in
-          let d = depends-exactly n m (w .0) t (w .1) .0 (w .2) in
-          absurd (d .2 (zero (d .0) (d .1) ∙ sym (zero (flipA (w .0) (d .0)) (d .1))))
+      no-share : (u : Terms) → ((x : Input) (r : ℕ → Bool) → value n m x r u ≡ false) → some (dependsA n u) (upTo n) ≡ false
+      no-share u zero = none-below n (dependsA n u) (λ i h. go i h (dependsA n u i) refl)
+        where
+          go : (i : ℕ) → i < n → (b : Bool) → dependsA n u i ≡ b → b ≡ false
+          go i h false e = refl
+          go i h true e = let d = depends-exactly n m i u h .0 e in absurd (d .2 (zero (d .0) (d .1) ∙ sym (zero (flipA i (d .0)) (d .1))))
 
-      no-share-b : (b : Bool) → some (dependsB n t) (upTo n) ≡ b → b ≡ false
-      no-share-b false e = refl
-      no-share-b true e =
-          let w = some-where n (dependsB n t) e in
-          let d = depends-exactly-b n m (w .0) t (w .1) .0 (w .2) in
-          absurd (d .2 (zero (d .0) (d .1) ∙ sym (zero (flipB (w .0) (d .0)) (d .1))))
-
-      no-mask : (b : Bool) → masked m t ≡ b → b ≡ false
-      no-mask false e = refl
-      no-mask true e =
-          let w = some-where m (t .mask) e in
-          let one : ℕ → Bool = λ k. eqb k (w .0) in
-          sym (w .2) ∙ sym (parity-one m (w .0) (t .mask) (w .1)) ∙ sym (masks-alone one) ∙ zero (record { ofA = λ i. false; ofB = λ j. false }) one
+      no-mask : (k : ℕ) → k < m → t .mask k ≡ false
+      no-mask k h =
+          let one : ℕ → Bool = λ i. eqb i k in
+          sym (parity-one m k (t .mask) h) ∙ sym (masks-alone one) ∙ zero (record { ofA = λ i. false; ofB = λ j. false }) one
 
 -- no bit is set for the n shares and m masks
 pub record NoBits (n m : ℕ) (t : Terms) : Type 0 where

@@ -11,10 +11,10 @@ use borrow.Author.Tests.{eqb-true}
 use lib.Dec.{eqb}
 use Rattle.basics.specs.Folds.{parity, upTo}
 use Rattle.basics.proofs.Tests.{xor-false, false-xor, xor-self, xor-same, and-xor}
-use Rattle.basics.proofs.Folds.{fold-cong, fold-unit, fold-hom}
+use Rattle.basics.proofs.Folds.{fold-cong, fold-hom}
 use Rattle.wires.specs.Wires.{Wire, Input, value, plus, total}
 use Rattle.wires.specs.Function.{operand, functionOf, functionTerms, outers, AddUpTo, computes}
-use Rattle.wires.proofs.Value.{value-plus, value-total}
+use Rattle.wires.proofs.Value.{nothing, no-products, value-plus, value-total}
 use Rattle.wires.proofs.Dependence.{zero-blank, blank-zero}
 
 -- a bit taken out of a sum
@@ -28,7 +28,7 @@ unfolding value
 all-or-none n m x r p a b =
     ap₂ xor (products p)
     (ap₂ xor (singles a (x .ofA))
-    (ap₂ xor (singles b (x .ofB)) (fold-unit xor false false-xor (λ k. false) (upTo m) (λ k. refl)) ∙ xor-false (b && operand n (x .ofB))))
+    (ap₂ xor (singles b (x .ofB)) (nothing (upTo m)) ∙ xor-false (b && operand n (x .ofB))))
   where
     row : (i : ℕ) → parity (λ j. x .ofA i && x .ofB j) (upTo n) ≡ (x .ofA i && operand n (x .ofB))
     row i =
@@ -40,13 +40,11 @@ all-or-none n m x r p a b =
     products true =
         fold-cong xor false (λ i. parity (λ j. x .ofA i && x .ofB j) (upTo n)) (λ i. x .ofA i && operand n (x .ofB)) (upTo n) row
         ∙ common (operand n (x .ofB)) (x .ofA) (upTo n)
-    products false =
-        fold-unit xor false false-xor (λ i. parity (λ j. false) (upTo n)) (upTo n)
-        (λ i. fold-unit xor false false-xor (λ j. false) (upTo n) (λ j. refl))
+    products false = no-products n
 
     singles : (a : Bool) (f : ℕ → Bool) → parity (λ i. a && f i) (upTo n) ≡ (a && operand n f)
     singles true f = refl
-    singles false f = fold-unit xor false false-xor (λ i. false) (upTo n) (λ i. refl)
+    singles false f = nothing (upTo n)
 
 pub function-value : (function n m : ℕ) (x : Input) (r : ℕ → Bool) → value n m x r (functionTerms function) ≡ functionOf function n x
 function-value function n m x r =

@@ -1,8 +1,9 @@
 -- Records hold bits for more shares and masks than a gadget has. Where none is set beyond the gadget's own, nothing changes when all are looked at.
 --     Within                          no bit is set beyond n shares and m masks, of those that a record can hold
 --     within, not-beyond              exactly where the test finds none beyond
---     within-total                    so it is for a sum
---     countA-narrow, masked-narrow    the counts over all bits of a record are those over the gadget's own
+--     within-none, within-plus        so it is for no terms, and for a sum of two
+--     AllWithin, within-total         for every wire of a list, and so for its sum
+--     depends-narrow, countA-narrow, countB-narrow, masked-narrow    dependence, counts and masks over all bits of a record are those over the gadget's own
 --     breaks-narrow, blank-narrow     and so are the breaking test and the test that no bit is set
 use Prim.Native.Nat.{ℕ, _+_, _≤_, _<_}
 use native.Mathlib.Decide.{decLt}
@@ -16,7 +17,7 @@ use borrow.Author.Tests.{le-leb, leb-true}
 use lib.Dec.{ltb, leb}
 use Rattle.basics.specs.Folds.{some, oneIf, upTo}
 use Rattle.basics.proofs.Tests.{or-left, or-right, or-cases, or-none, bool-ext, false-xor}
-use Rattle.basics.proofs.Folds.{fold-below, fold-narrow, fold-unit, never}
+use Rattle.basics.proofs.Folds.{fold-below, fold-narrow, none-below, never}
 use Rattle.wires.specs.declared.Notion.{Notion}
 use Rattle.wires.specs.Wires.{Terms, Wire, none, plus, total, swap, dependsA, countA, countB, masked, allowed, breaks, beyond}
 use Rattle.wires.specs.Function.{blank}
@@ -63,16 +64,13 @@ module _ (N M n m : ℕ) where
       ap₂ (λ (x y : Bool). x || y)
       (ap₂ (λ (x y : Bool). x || y)
       (ap₂ (λ (x y : Bool). x || y)
-      (none-of N (λ i. some (λ j. t .product i j && (leb n i || leb n j)) (upTo N))
-      (λ i c. none-of N (λ j. t .product i j && (leb n i || leb n j))
+      (none-below N (λ i. some (λ j. t .product i j && (leb n i || leb n j)) (upTo N))
+      (λ i c. none-below N (λ j. t .product i j && (leb n i || leb n j))
       (λ j d. out (t .product i j) (leb n i || leb n j) (λ e. h .noProduct i j c d (late i j e)))))
-      (none-of N (λ i. t .shareA i && leb n i) (λ i c. out (t .shareA i) (leb n i) (λ e. h .noA i c (leb-true n i e)))))
-      (none-of N (λ j. t .shareB j && leb n j) (λ j c. out (t .shareB j) (leb n j) (λ e. h .noB j c (leb-true n j e)))))
-      (none-of M (λ k. t .mask k && leb m k) (λ k c. out (t .mask k) (leb m k) (λ e. h .noMask k c (leb-true m k e))))
+      (none-below N (λ i. t .shareA i && leb n i) (λ i c. out (t .shareA i) (leb n i) (λ e. h .noA i c (leb-true n i e)))))
+      (none-below N (λ j. t .shareB j && leb n j) (λ j c. out (t .shareB j) (leb n j) (λ e. h .noB j c (leb-true n j e)))))
+      (none-below M (λ k. t .mask k && leb m k) (λ k c. out (t .mask k) (leb m k) (λ e. h .noMask k c (leb-true m k e))))
     where
-      none-of : (k : ℕ) (f : ℕ → Bool) → ((i : ℕ) → i < k → f i ≡ false) → some f (upTo k) ≡ false
-      none-of k f g = fold-below _||_ false k f (λ i. false) g ∙ fold-unit _||_ false (λ b. refl) (λ i. false) (upTo k) (λ i. refl)
-
       out : (p q : Bool) → (q ≡ true → p ≡ false) → (p && q) ≡ false
       out true true f = f refl
       out true false f = refl
@@ -131,8 +129,7 @@ module _ (N M n m : ℕ) (small : n ≤ N) (few : m ≤ M) where
       beyond-none : (i : ℕ) → n ≤ i → i < N → dependsA n t i ≡ false
       beyond-none i l c =
           ap₂ (λ (a b : Bool). a || b)
-          (fold-below _||_ false n (t .product i) (λ j. false) (λ j d. h .noProduct i j c (le-trans d small) (inl l))
-          ∙ fold-unit _||_ false (λ x. refl) (λ j. false) (upTo n) (λ j. refl))
+          (none-below n (t .product i) (λ j d. h .noProduct i j c (le-trans d small) (inl l)))
           (h .noA i c l)
 
   pub countB-narrow : (t : Terms) → Within N M n m t → countB N t ≡ countB n t

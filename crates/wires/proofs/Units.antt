@@ -3,16 +3,15 @@
 --     value-of-product, value-of-share, value-of-mask     their values: the product of the two shares, the share, the mask
 --     value-of-share-b                            a share of b
 use Prim.Native.Nat.{ℕ, _<_}
-use mathlib.Core.Path.{_≡_, refl, _∙_, ap, ap₂}
-use mathlib.Core.Bool.{Bool, true, false, cond, _&&_, xor}
-use mathlib.Core.List.{List}
+use mathlib.Core.Path.{_≡_, _∙_, ap, ap₂}
+use mathlib.Core.Bool.{Bool, true, false, _&&_, xor, and-comm}
 use lib.Dec.{eqb}
 use Rattle.basics.specs.Folds.{parity, upTo}
 use Rattle.basics.proofs.Tests.{xor-false, false-xor}
-use Rattle.basics.proofs.Folds.{fold-cong, fold-unit}
+use Rattle.basics.proofs.Folds.{fold-cong}
 use Rattle.wires.specs.Wires.{Terms, Input, value, swap, swapInput}
-use Rattle.wires.proofs.Value.{value-swap}
-use Rattle.wires.proofs.Dependence.{parity-pick}
+use Rattle.wires.proofs.Value.{nothing, no-products, value-swap}
+use Rattle.wires.proofs.Dependence.{parity-one}
 
 abbrev pub justProduct : ℕ → ℕ → Terms
 justProduct i j = record { product = λ k l. eqb k i && eqb l j; shareA = λ k. false; shareB = λ k. false; mask = λ k. false }
@@ -23,19 +22,9 @@ justShare i = record { product = λ k l. false; shareA = λ k. eqb k i; shareB =
 abbrev pub justMask : ℕ → Terms
 justMask i = record { product = λ k l. false; shareA = λ k. false; shareB = λ k. false; mask = λ k. eqb k i }
 
-nothing : {A : Type 0} (l : List A) → parity (λ x. false) l ≡ false
-nothing l = fold-unit xor false false-xor (λ x. false) l (λ x. refl)
-
-no-products : (n : ℕ) → parity (λ i. parity (λ j. false) (upTo n)) (upTo n) ≡ false
-no-products n = fold-unit xor false false-xor (λ i. parity (λ j. false) (upTo n)) (upTo n) (λ i. nothing (upTo n))
-
 picked : (n k : ℕ) (f : ℕ → Bool) → k < n → parity (λ i. eqb i k && f i) (upTo n) ≡ f k
 picked n k f h =
-    fold-cong xor false (λ i. eqb i k && f i) (λ i. cond (eqb i k) (f i) false) (upTo n) (λ i. chosen (eqb i k) (f i)) ∙ parity-pick n k f h
-  where
-    chosen : (b c : Bool) → (b && c) ≡ cond b c false
-    chosen true c = refl
-    chosen false c = refl
+    fold-cong xor false (λ i. eqb i k && f i) (λ i. f i && eqb i k) (upTo n) (λ i. and-comm (eqb i k) (f i)) ∙ parity-one n k f h
 
 module _ (n m : ℕ) (x : Input) (r : ℕ → Bool) where
   pub value-of-mask : (k : ℕ) → k < m → value n m x r (justMask k) ≡ r k

@@ -1,6 +1,8 @@
 -- The value of terms under an input and a mask setting.
 --     terms-ext                      terms are equal when all their bits are
---     plus-none, none-plus, plus-comm, plus-assoc    laws of the addition of terms
+--     plus-none, none-plus, plus-assoc    laws of the addition of terms
+--     parity-both, parity-select, four-parts      sums of sums of bits
+--     parity-none, nothing, no-products      sums of bits that are all 0
 --     value-none, value-plus         the value of no terms; the value of a sum is the sum of the values
 --     value-total, sum-of-values     the sum of a list of wires has the sum of their values as its value
 --     value-swap                     with operands exchanged in terms and input the value is the same
@@ -29,19 +31,20 @@ none-plus t =
     terms-ext (plus none t) t (λ i j. false-xor (t .product i j)) (λ i. false-xor (t .shareA i)) (λ j. false-xor (t .shareB j))
     (λ k. false-xor (t .mask k))
 
-pub plus-comm : (t u : Terms) → plus t u ≡ plus u t
-plus-comm t u =
-    terms-ext (plus t u) (plus u t) (λ i j. xor-comm (t .product i j) (u .product i j)) (λ i. xor-comm (t .shareA i) (u .shareA i))
-    (λ j. xor-comm (t .shareB j) (u .shareB j)) (λ k. xor-comm (t .mask k) (u .mask k))
-
 pub plus-assoc : (t u v : Terms) → plus (plus t u) v ≡ plus t (plus u v)
 plus-assoc t u v =
     terms-ext (plus (plus t u) v) (plus t (plus u v)) (λ i j. xor-assoc (t .product i j) (u .product i j) (v .product i j))
     (λ i. xor-assoc (t .shareA i) (u .shareA i) (v .shareA i)) (λ j. xor-assoc (t .shareB j) (u .shareB j) (v .shareB j))
     (λ k. xor-assoc (t .mask k) (u .mask k) (v .mask k))
 
-parity-none : {A : Type 0} (f : A → Bool) (l : List A) → ((x : A) → f x ≡ false) → parity f l ≡ false
+pub parity-none : {A : Type 0} (f : A → Bool) (l : List A) → ((x : A) → f x ≡ false) → parity f l ≡ false
 parity-none = fold-unit xor false false-xor
+
+pub nothing : {A : Type 0} (l : List A) → parity (λ x. false) l ≡ false
+nothing l = parity-none (λ x. false) l (λ x. refl)
+
+pub no-products : (n : ℕ) → parity (λ i. parity (λ j. false) (upTo n)) (upTo n) ≡ false
+no-products n = parity-none (λ i. parity (λ j. false) (upTo n)) (upTo n) (λ i. nothing (upTo n))
 
 pub parity-both : {A : Type 0} (f g : A → Bool) (l : List A) → parity (λ x. xor (f x) (g x)) l ≡ xor (parity f l) (parity g l)
 parity-both = fold-both xor false false-xor xor-comm xor-assoc
@@ -65,9 +68,7 @@ module _ (n m : ℕ) (x : Input) (r : ℕ → Bool) where
   pub value-none : value n m x r none ≡ false
   unfolding value
   value-none =
-      ap₂ xor (parity-none (λ i. parity (λ j. false) (upTo n)) (upTo n) (λ i. parity-none (λ j. false) (upTo n) (λ j. refl)))
-      (ap₂ xor (parity-none (λ i. false) (upTo n) (λ i. refl))
-      (ap₂ xor (parity-none (λ i. false) (upTo n) (λ i. refl)) (parity-none (λ i. false) (upTo m) (λ i. refl))))
+      ap₂ xor (no-products n) (ap₂ xor (nothing (upTo n)) (ap₂ xor (nothing (upTo n)) (nothing (upTo m))))
       ∙ ap (xor false) (ap (xor false) (false-xor false) ∙ false-xor false) ∙ false-xor false
 
   pub value-plus : (t u : Terms) → value n m x r (plus t u) ≡ xor (value n m x r t) (value n m x r u)
