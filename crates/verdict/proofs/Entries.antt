@@ -1,0 +1,243 @@
+-- The answers of the two entries, path by path. Where a test refuses, nothing was written; else the search's result decides.
+--     searched-decided, stretch-decided     the code's test over all bits of a record finds the sets that the gadget's shares and masks give
+--     Promise                               the whole of a verdict's promise
+--     before, order-low, order-high, no-room, found-none, found-set     the verdict's answers
+--     size-within                           the size that was found is within the order
+--     range-before, size-large, range-room, ranks-low, ranks-high, range-clean, range-found     the range check's answers
+use Prim.Native.Nat.{ℕ, zero, suc, _-_, _%_, _≤_, _<_}
+use native.Mathlib.Nat.{div-mul-le-self}
+use native.Mathlib.Omega.{arith}
+use mathlib.Core.Path.{_≡_, refl, sym, _∙_, ap, ap₂, subst}
+use mathlib.Core.Bool.{Bool, true, false, cond, not, _&&_, and-false}
+use mathlib.Core.List.{List, [], _∷_, _++_, map}
+use borrow.Author.Tests.{le-leb, lt-leb, le-ltb, lt-ltb, ltb-false}
+use lib.Dec.{ltb, leb, eqb}
+use lib.ListN.{length, take, drop}
+use lib.Seq.{take-at}
+use Rattle.basics.specs.Folds.{keep}
+use Rattle.basics.specs.Told.{Lent, values, refusal, turnedDown}
+use Rattle.basics.proofs.Tests.{or-none}
+use Rattle.wires.specs.declared.Notion.{Notion}
+use Rattle.wires.specs.Wires.{breaks}
+use Rattle.records.specs.Layout.{wireAt, wireCount, inside}
+use Rattle.table.proofs.Entries.{Accepted, Sound, accepted-exactly, shares-high, set-decided}
+use Rattle.counts.specs.Counts.{binom}
+use Rattle.sets.specs.Order.{revolving, setAt, rankOf, isSet}
+use Rattle.sets.proofs.Rising.{isSet-parts}
+use Rattle.sets.proofs.Revolving.{revolving-length, set-at-is-set, rank-of-set}
+use Rattle.verdict.specs.declared.Refusal.{Refusal}
+use Rattle.verdict.specs.declared.Refusal.the-variants.{OrderOutOfRange, BufferTooShort, SizeTooLarge, RanksOutOfRange}
+use Rattle.verdict.specs.declared.Opened.{Opened}
+use Rattle.verdict.specs.declared.VerdictAnswer.{VerdictAnswer}
+use Rattle.verdict.specs.declared.RangeAnswer.{RangeAnswer}
+use Rattle.verdict.specs.Search.{searched, stretch, isBreaking, first, FirstSet, FirstRank}
+use Rattle.verdict.specs.Answers.{refusalNumber, verdictTold, rangeTold, wrongOrder, notionOf, openedTold, opens, written, firstShown, verdictOf, firstRanked, rangeCheck}
+use Rattle.verdict.specs.Guarantee.{Watched, Guarantee}
+use Rattle.verdict.proofs.Keeping.{Each, each-place, each-take, each-drop, each-map, keep-same, keep-first}
+use Rattle.verdict.proofs.Turns.{set-inside, rank-first}
+use Rattle.verdict.proofs.Admitting.{Opens, opens-notion, opened-answer, opened-refusal}
+use Rattle.verdict.proofs.Watching.{each-searched, shown-none, holds, broken, refused}
+
+-- ---- all bits of a record, or the gadget's own
+
+module _ (table : List ℕ) (shares masks notion : ℕ) (kind : Notion) (o : Opens table shares masks notion kind) where
+  abbrev wide : List ℕ → Bool
+  wide = isBreaking kind table 8 64
+
+  abbrev own : List ℕ → Bool
+  own = isBreaking (notionOf notion) table shares masks
+
+  decided : (k : ℕ) (s : List ℕ) → isSet (wireCount table) k s ≡ true → wide s ≡ own s
+  unfolding isBreaking
+  decided k s e =
+      set-decided table shares masks (o .sound) kind s (set-inside table k s e)
+      ∙ ap (λ (i : Notion). breaks i shares masks (map (wireAt table) s)) (o .named)
+
+  pub searched-decided : (order : ℕ) → keep wide (searched (wireCount table) order) ≡ keep own (searched (wireCount table) order)
+  searched-decided order =
+      keep-same wide own (searched (wireCount table) order)
+      (each-searched (wireCount table) (λ s. wide s ≡ own s) order (λ k b s e. decided (suc k) s e))
+
+  pub stretch-decided : (k from to : ℕ) → keep wide (stretch (wireCount table) k from to) ≡ keep own (stretch (wireCount table) k from to)
+  stretch-decided k from to =
+      let all = revolving (wireCount table) k in
+      keep-same wide own (stretch (wireCount table) k from to)
+      (each-take (λ s. wide s ≡ own s) (to - from) (drop from all)
+      (each-drop (λ s. wide s ≡ own s) from all
+      (each-place (λ s. wide s ≡ own s) all []
+      (λ i b. decided k (setAt (wireCount table) k i) (set-at-is-set (wireCount table) k i (omega (arith, revolving-length (wireCount table) k)))))))
+
+-- ---- the limits of an accepted table
+
+module _ (table : List ℕ) (shares masks notion : ℕ) (kind : Notion) (told : openedTold (Opened.For kind) ≡ opens table shares masks notion) where
+  pub opened-for : Opens table shares masks notion kind
+  opened-for = opens-notion table shares masks notion kind told
+
+  pub short : length table ≤ 12288
+  short = ltb-false 12288 (length table) (or-none (not (eqb (length table % 24) 0)) (ltb 12288 (length table)) (opened-for .sound .goodLength) .1)
+
+  pub order-within : (order : ℕ) → order < shares → order ≤ 7
+  order-within order h = omega (arith, shares-high table shares masks (opened-for .sound))
+
+-- ---- the verdict
+
+pub record Promise (answer : VerdictAnswer) (held table : List ℕ) (shares masks notion order : ℕ) (buffer : List ℕ) : Type 0 where
+  pub equation : verdictTold answer held ≡ verdictOf table shares masks notion order buffer
+  pub guarantee : Guarantee answer table shares masks notion order held
+
+module _ (table : List ℕ) (shares masks notion order : ℕ) (buffer : List ℕ) where
+  abbrev answer : Lent
+  answer =
+      cond (wrongOrder shares order) (turnedDown 15 buffer)
+      (cond (ltb (length buffer) order) (turnedDown 16 buffer)
+      (firstShown (keep (isBreaking (notionOf notion) table shares masks) (searched (wireCount table) order)) buffer))
+
+  pub before : (why : Refusal) → openedTold (Opened.Refused why) ≡ opens table shares masks notion
+      → Promise (VerdictAnswer.Refused why) buffer table shares masks notion order buffer
+  before why e = record {
+    equation = sym (opened-refusal table shares masks notion (λ number. turnedDown number buffer) answer (refusalNumber why) e);
+    guarantee = refused table shares masks notion order why buffer;
+  }
+
+  module _ (kind : Notion) (told : openedTold (Opened.For kind) ≡ opens table shares masks notion) where
+    own-answer : verdictOf table shares masks notion order buffer ≡ answer
+    own-answer = opened-answer table shares masks notion (λ number. turnedDown number buffer) answer kind (opened-for table shares masks notion kind told)
+
+    turned : (why : Refusal) → turnedDown (refusalNumber why) buffer ≡ answer → Promise (VerdictAnswer.Refused why) buffer table shares masks notion order buffer
+    turned why e = record { equation = e ∙ sym own-answer; guarantee = refused table shares masks notion order why buffer }
+
+    pub order-low : order < 1 → Promise (VerdictAnswer.Refused OrderOutOfRange) buffer table shares masks notion order buffer
+    order-low h = turned OrderOutOfRange (simp (lt-leb 1 order h))
+
+    pub order-high : shares ≤ order → Promise (VerdictAnswer.Refused OrderOutOfRange) buffer table shares masks notion order buffer
+    order-high h = turned OrderOutOfRange (simp (le-ltb order shares h, and-false (leb 1 order)))
+
+    module _ (low : 1 ≤ order) (high : order < shares) where
+      pub no-room : length buffer < order → Promise (VerdictAnswer.Refused BufferTooShort) buffer table shares masks notion order buffer
+      no-room h = turned BufferTooShort (simp (le-leb 1 order low, lt-ltb order shares high, lt-ltb (length buffer) order h))
+
+      module _ (room : order ≤ length buffer) (size : ℕ) (probes : List ℕ)
+          (search : FirstSet (isBreaking kind table 8 64) (searched (wireCount table) order) size probes) where
+        abbrev sets : List (List ℕ)
+        sets = keep (isBreaking (notionOf notion) table shares masks) (searched (wireCount table) order)
+
+        same : keep (isBreaking kind table 8 64) (searched (wireCount table) order) ≡ sets
+        same = searched-decided table shares masks notion kind (opened-for table shares masks notion kind told) order
+
+        shows : firstShown sets buffer ≡ answer
+        shows = simp (le-leb 1 order low, lt-ltb order shares high, le-ltb (length buffer) order room)
+
+        long : size ≡ length (first sets)
+        long = search .size-is ∙ ap (λ (l : List (List ℕ)). length (first l)) same
+
+        front : take size probes ≡ first sets
+        front = search .set-is ∙ ap first same
+
+        pub size-within : size ≤ order
+        size-within = go sets refl long
+          where
+            go : (l : List (List ℕ)) → sets ≡ l → size ≡ length (first l) → size ≤ order
+            go [] e p = omega arith
+            go (s ∷ later) e p = omega (arith, shown-none table shares masks notion order s later e .1 .few)
+
+        pub found-none : size ≡ 0 → Promise VerdictAnswer.Holds buffer table shares masks notion order buffer
+        found-none nil = go sets refl long
+          where
+            go : (l : List (List ℕ)) → sets ≡ l → size ≡ length (first l) → Promise VerdictAnswer.Holds buffer table shares masks notion order buffer
+            go [] e p = record {
+              equation = ap (λ (l : List (List ℕ)). firstShown l buffer) (sym e) ∙ shows ∙ sym own-answer;
+              guarantee = holds table shares masks notion order buffer e;
+            }
+            go (s ∷ later) e p = let z : ⊥ = omega (arith, shown-none table shares masks notion order s later e .0) in absurd z
+
+        pub found-set : (size ≡ 0 → ⊥) → (held : List ℕ) → held ≡ written (take (size - 0) probes) buffer
+            → Promise (VerdictAnswer.Broken size) held table shares masks notion order buffer
+        found-set some held wrote = go sets refl long front
+          where
+            go : (l : List (List ℕ)) → sets ≡ l → size ≡ length (first l) → take size probes ≡ first l
+                → Promise (VerdictAnswer.Broken size) held table shares masks notion order buffer
+            go [] e p q = absurd (some p)
+            go (s ∷ later) e p q =
+                let all : size - 0 ≡ size = omega arith in
+                let copied : held ≡ written s buffer =
+                wrote ∙ ap (λ (l : List ℕ). written l buffer) (ap (λ (i : ℕ). take i probes) all ∙ q) in record {
+                  equation = ap₂ (λ (k : ℕ) (l : List ℕ). record { told = values (k ∷ []); held = l }) p copied
+                      ∙ ap (λ (l : List (List ℕ)). firstShown l buffer) (sym e) ∙ shows ∙ sym own-answer;
+                  guarantee = broken table shares masks notion order size held s later e p (ap₂ {C = List ℕ} take p copied ∙ take-at s (drop (length s) buffer) (length s) refl);
+                }
+
+-- ---- the range check
+
+module _ (table : List ℕ) (shares masks notion size from to : ℕ) (buffer : List ℕ) where
+  abbrev all : ℕ
+  all = binom (wireCount table) size
+
+  abbrev range-answer : Lent
+  range-answer =
+      cond (ltb 7 size) (turnedDown 17 buffer)
+      (cond (ltb (length buffer) size) (turnedDown 16 buffer)
+      (cond (not (leb from to && leb to all)) (turnedDown 18 buffer)
+      (firstRanked (wireCount table) (keep (isBreaking (notionOf notion) table shares masks) (stretch (wireCount table) size from to)) buffer)))
+
+  -- what the entry is to tell
+  abbrev asked : Lent
+  asked = rangeCheck table shares masks notion size from to buffer
+
+  pub range-before : (number : ℕ) → refusal number ≡ opens table shares masks notion → turnedDown number buffer ≡ asked
+  range-before number e = sym (opened-refusal table shares masks notion (λ number. turnedDown number buffer) range-answer number e)
+
+  module _ (kind : Notion) (told : openedTold (Opened.For kind) ≡ opens table shares masks notion) where
+    own-range : range-answer ≡ asked
+    own-range = sym (opened-answer table shares masks notion (λ number. turnedDown number buffer) range-answer kind (opened-for table shares masks notion kind told))
+
+    pub size-large : 7 < size → turnedDown 17 buffer ≡ asked
+    size-large h = let e : turnedDown 17 buffer ≡ range-answer = simp (lt-ltb 7 size h) in e ∙ own-range
+
+    module _ (small : size ≤ 7) where
+      pub range-room : length buffer < size → turnedDown 16 buffer ≡ asked
+      range-room h = let e : turnedDown 16 buffer ≡ range-answer = simp (le-ltb 7 size small, lt-ltb (length buffer) size h) in e ∙ own-range
+
+      module _ (room : size ≤ length buffer) where
+        pub ranks-low : to < from → turnedDown 18 buffer ≡ asked
+        ranks-low h =
+            let e : turnedDown 18 buffer ≡ range-answer = simp (le-ltb 7 size small, le-ltb (length buffer) size room, lt-leb from to h) in e ∙ own-range
+
+        pub ranks-high : from ≤ to → all < to → turnedDown 18 buffer ≡ asked
+        ranks-high rises h =
+            let e : turnedDown 18 buffer ≡ range-answer =
+            simp (le-ltb 7 size small, le-ltb (length buffer) size room, le-leb from to rises, lt-leb to all h) in
+            e ∙ own-range
+
+        module _ (rises : from ≤ to) (ends : to ≤ all) (rank : ℕ) (probes : List ℕ)
+            (search : FirstRank (isBreaking kind table 8 64) (wireCount table) size from to rank probes) where
+          abbrev ranked : List (List ℕ)
+          ranked = keep (isBreaking (notionOf notion) table shares masks) (stretch (wireCount table) size from to)
+
+          same-sets : keep (isBreaking kind table 8 64) (stretch (wireCount table) size from to) ≡ ranked
+          same-sets = stretch-decided table shares masks notion kind (opened-for table shares masks notion kind told) size from to
+
+          shows-first : firstRanked (wireCount table) ranked buffer ≡ range-answer
+          shows-first = simp (le-ltb 7 size small, le-ltb (length buffer) size room, le-leb from to rises, le-leb to all ends)
+
+          decides : (l : List (List ℕ)) → ranked ≡ l → firstRanked (wireCount table) l buffer ≡ asked
+          decides l e = ap (λ (l : List (List ℕ)). firstRanked (wireCount table) l buffer) (sym e) ∙ shows-first ∙ own-range
+
+          pub range-clean : to ≤ rank → rangeTold RangeAnswer.Clean buffer ≡ asked
+          range-clean h =
+              let last : to ≡ rank = omega (arith, search .high) in
+              decides [] (sym same-sets ∙ ap (λ (k : ℕ). keep (isBreaking kind table 8 64) (stretch (wireCount table) size from k)) last ∙ search .clean)
+
+          pub range-found : rank < to → (held : List ℕ) → held ≡ written (take (size - 0) probes) buffer → rangeTold (RangeAnswer.Found size rank) held ≡ asked
+          range-found h held wrote =
+              let n = wireCount table in
+              let set = setAt n size rank in
+              let found = search .found h in
+              let counted : rank < all = omega arith in
+              let first = rank-first (isBreaking kind table 8 64) n size from rank to (search .low) h ends (search .clean) (found .0) in
+              let all-of-it : size - 0 ≡ size = omega arith in
+              let long : size ≡ length set = sym (isSet-parts n size set (set-at-is-set n size rank counted) .0) in
+              let copied : held ≡ written set buffer =
+              wrote ∙ ap (λ (l : List ℕ). written l buffer) (ap (λ (i : ℕ). take i probes) all-of-it ∙ found .1) in
+              ap₂ (λ (k : ℕ) (l : List ℕ). record { told = values (k ∷ rank ∷ []); held = l }) long copied
+              ∙ ap (λ (r : ℕ). record { told = values (length set ∷ r ∷ []); held = written set buffer }) (sym (rank-of-set n size rank counted))
+              ∙ decides (set ∷ first .0) (sym same-sets ∙ first .1)

@@ -1,0 +1,6 @@
+pub mod Keeping
+pub mod Turns
+pub mod Admitting
+pub mod Writing
+pub mod Watching
+pub mod Entries

@@ -1,0 +1,234 @@
+-- The turns of the search's loops, over plain numbers and lists.
+--     looked-inside, looked        the set that was unranked into a buffer: its wires are the table's; what the test says of it
+--     SizesClean, RanksClean       nothing found in the sizes below, and in the ranks below
+--     no-size, no-rank             at the start
+--     next-rank, next-size         after a turn
+--     none-found, set-found        the search's result, where nothing was found and where a set was
+--     rank-next, rank-found, rank-none     the same for the ranks of a range
+use Prim.Native.Nat.{ℕ, zero, suc, _+_, _-_, _≤_, _<_}
+use native.Mathlib.Nat.{zero-add, le-of-suc-le-suc, eq-or-lt-of-le, not-suc-le-zero}
+use native.Mathlib.Omega.{arith}
+use mathlib.Core.Path.{_≡_, refl, sym, _∙_, ap, ap₂, subst}
+use mathlib.Core.Logic.{_⊎_, inl, inr}
+use mathlib.Core.Bool.{Bool, true, false, _&&_}
+use mathlib.Core.List.{List, [], _∷_, _++_, map, append-assoc, append-nil}
+use lib.Dec.{ltb, eqb}
+use lib.ListN.{length, getD, take, drop, length-drop, length-take}
+use lib.Seq.{take-at, take-all, take-take, getD-take, getD-drop, length-take-le}
+use Rattle.basics.specs.Folds.{keep, every}
+use Rattle.basics.proofs.Tests.{and-right}
+use Rattle.basics.proofs.Folds.{keep-append}
+use Rattle.wires.specs.declared.Notion.{Notion}
+use Rattle.wires.specs.Wires.{breaks}
+use Rattle.records.specs.Layout.{wireAt, wireCount, inside}
+use Rattle.counts.specs.Counts.{binom}
+use Rattle.sets.specs.Order.{revolving, setAt, rising, below, isSet}
+use Rattle.sets.proofs.Rising.{isSet-parts}
+use Rattle.sets.proofs.Revolving.{revolving-length, set-at-is-set}
+use Rattle.verdict.specs.Search.{searched, stretch, isBreaking, first, FirstSet, FirstRank}
+use Rattle.verdict.proofs.Keeping.{keep-none-more, keep-found}
+
+-- ---- one set
+
+pub below-inside : (table s : List ℕ) → below (wireCount table) s ≡ true → inside table s ≡ true
+unfolding inside
+below-inside table s e = all s ∙ e
+  where
+    all : (s : List ℕ) → every (λ wire. ltb wire (wireCount table)) s ≡ below (wireCount table) s
+    all [] = refl
+    all (x ∷ s) = ap (λ (b : Bool). ltb x (wireCount table) && b) (all s)
+
+pub set-inside : (table : List ℕ) (k : ℕ) (s : List ℕ) → isSet (wireCount table) k s ≡ true → inside table s ≡ true
+set-inside table k s e =
+    below-inside table s
+    (and-right (rising s) (below (wireCount table) s) (and-right (eqb (length s) k) (rising s && below (wireCount table) s) e))
+
+module _ (table : List ℕ) (n k rank : ℕ) (held old : List ℕ) (wires : n ≡ wireCount table) (h : rank < binom n k)
+    (unranked : held ≡ setAt n k rank ++ drop k old) where
+  front : take (k - 0) held ≡ setAt n k rank
+  front =
+      let same : k - 0 ≡ k = omega arith in
+      ap₂ {C = List ℕ} (λ i l. take i l) same unranked ∙ take-at (setAt n k rank) (drop k old) k (isSet-parts n k (setAt n k rank) (set-at-is-set n k rank h) .0)
+
+  pub looked-inside : inside table (take (k - 0) held) ≡ true
+  looked-inside =
+      set-inside table k (take (k - 0) held)
+      (ap₂ (λ (m : ℕ) (l : List ℕ). isSet m k l) (sym wires) front ∙ set-at-is-set n k rank h)
+
+  pub looked : (notion : Notion) (r : Bool) → r ≡ breaks notion 8 64 (map (wireAt table) (take (k - 0) held)) → r ≡ isBreaking notion table 8 64 (setAt n k rank)
+  unfolding isBreaking
+  looked notion r e = e ∙ ap (λ (l : List ℕ). breaks notion 8 64 (map (wireAt table) l)) front
+
+-- ---- sizes and ranks
+
+module _ (n : ℕ) where
+  pub searched-none : searched n 0 ≡ []
+  unfolding searched
+  searched-none = refl
+
+  pub searched-suc : (t : ℕ) → searched n (suc t) ≡ searched n t ++ revolving n (suc t)
+  unfolding searched
+  searched-suc t = refl
+
+module _ (test : List ℕ → Bool) (n : ℕ) where
+  -- the sizes from 1 up to, without, this one
+  unfoldable pub SizesClean : ℕ → Type 0
+  SizesClean size = (t : ℕ) → suc t ≡ size → keep test (searched n t) ≡ []
+
+  unfoldable pub RanksClean : ℕ → ℕ → Type 0
+  RanksClean size rank = keep test (take rank (revolving n size)) ≡ []
+
+  pub no-size : SizesClean 1
+  unfolding SizesClean searched
+  no-size zero e = refl
+  no-size (suc t) e = let z : ⊥ = omega arith in absurd z
+
+  pub no-rank : (size : ℕ) → RanksClean size 0
+  unfolding RanksClean
+  no-rank size = ap (keep test) (nothing (revolving n size))
+    where
+      nothing : {A : Type 0} (l : List A) → take 0 l ≡ []
+      nothing [] = refl
+      nothing (x ∷ l) = refl
+
+  pub next-rank : (size rank : ℕ) → rank < binom n size → RanksClean size rank → test (setAt n size rank) ≡ false → RanksClean size (rank + 1)
+  unfolding RanksClean
+  next-rank size rank h clean e = keep-none-more test (revolving n size) rank [] (omega (arith, revolving-length n size)) clean e
+
+  size-clean : (t : ℕ) → keep test (searched n t) ≡ [] → keep test (searched n (suc t)) ≡ keep test (revolving n (suc t))
+  size-clean t e =
+      ap (keep test) (searched-suc n t) ∙ keep-append test (searched n t) (revolving n (suc t))
+      ∙ ap {B = List (List ℕ)} (λ l. l ++ keep test (revolving n (suc t))) e
+
+  pub next-size : (size rank : ℕ) → SizesClean size → RanksClean size rank → binom n size ≤ rank → SizesClean (size + 1)
+  unfolding SizesClean RanksClean searched
+  next-size size rank sizes ranks h t e =
+      let same : t ≡ size = omega arith in
+      ap (λ (k : ℕ). keep test (searched n k)) same ∙ go size sizes whole
+    where
+      whole : keep test (revolving n size) ≡ []
+      whole = ap (keep test) (sym (take-all rank (revolving n size) (omega (arith, revolving-length n size)))) ∙ ranks
+
+      go : (size : ℕ) → ((t : ℕ) → suc t ≡ size → keep test (searched n t) ≡ []) → keep test (revolving n size) ≡ [] → keep test (searched n size) ≡ []
+      go zero sizes whole = refl
+      go (suc t) sizes whole = size-clean t (sizes t refl) ∙ whole
+
+  pub none-found : (order size found : ℕ) (held : List ℕ) → found ≡ 0 → order < size → size ≤ order + 1 → SizesClean size
+      → FirstSet test (searched n order) found held
+  unfolding SizesClean
+  none-found order size found held nil low high clean =
+      let none : keep test (searched n order) ≡ [] = clean order (omega arith) in
+      record {
+        size-is = nil ∙ ap (λ (l : List (List ℕ)). length (first l)) (sym none);
+        set-is = ap (λ (i : ℕ). take i held) nil ∙ nothing held ∙ ap first (sym none);
+      }
+    where
+      nothing : (l : List ℕ) → take 0 l ≡ []
+      nothing [] = refl
+      nothing (x ∷ l) = refl
+
+  -- the sets of larger sizes come after
+  searched-more : (size order : ℕ) → size ≤ order → (more : List (List ℕ)) × (searched n order ≡ searched n size ++ more)
+  searched-more size zero h = let e : size ≡ 0 = omega arith in ([], ap (searched n) (sym e) ∙ sym (append-nil (searched n size)))
+  searched-more size (suc order) h = go (eq-or-lt-of-le h) (searched-more size order)
+    where
+      go : (size ≡ suc order) ⊎ (size < suc order) → (size ≤ order → (more : List (List ℕ)) × (searched n order ≡ searched n size ++ more))
+          → (more : List (List ℕ)) × (searched n (suc order) ≡ searched n size ++ more)
+      go (inl e) ih = ([], ap (searched n) (sym e) ∙ sym (append-nil (searched n size)))
+      go (inr p) ih =
+          let r = ih (le-of-suc-le-suc p) in (
+            r .0 ++ revolving n (suc order),
+            searched-suc n order ∙ ap (λ (l : List (List ℕ)). l ++ revolving n (suc order)) (r .1)
+                ∙ append-assoc (searched n size) (r .0) (revolving n (suc order)),
+          )
+
+  -- what is found first in a size is found first
+  pub first-of-size : (t order : ℕ) (s : List ℕ) (later : List (List ℕ)) → keep test (searched n t) ≡ [] → suc t ≤ order
+      → keep test (revolving n (suc t)) ≡ s ∷ later → (rest : List (List ℕ)) × (keep test (searched n order) ≡ s ∷ rest)
+  first-of-size t order s later none h e =
+      let m = searched-more (suc t) order h in (
+        later ++ keep test (m .0),
+        ap (keep test) (m .1) ∙ keep-append test (searched n (suc t)) (m .0)
+            ∙ ap {B = List (List ℕ)} (λ l. l ++ keep test (m .0)) (size-clean t none ∙ e),
+      )
+
+  pub set-found : (size order rank : ℕ) (held old : List ℕ) → 1 ≤ size → size ≤ order → rank < binom n size → SizesClean size → RanksClean size rank
+      → true ≡ test (setAt n size rank) → held ≡ setAt n size rank ++ drop size old → FirstSet test (searched n order) size held
+  unfolding SizesClean RanksClean
+  set-found zero order rank held old some h counted sizes ranks e unranked = absurd (not-suc-le-zero some)
+  set-found (suc t) order rank held old some h counted sizes ranks e unranked =
+      let set = setAt n (suc t) rank in
+      let found =
+      first-of-size t order set (keep test (drop (suc rank) (revolving n (suc t)))) (sizes t refl) h
+      (keep-found test (revolving n (suc t)) rank [] (omega (arith, revolving-length n (suc t))) ranks (sym e)) in
+      let long : length set ≡ suc t = isSet-parts n (suc t) set (set-at-is-set n (suc t) rank counted) .0 in
+      record {
+        size-is = sym long ∙ ap (λ (l : List (List ℕ)). length (first l)) (sym (found .1));
+        set-is = ap (take (suc t)) unranked ∙ take-at set (drop (suc t) old) (suc t) long ∙ ap first (sym (found .1));
+      }
+
+-- ---- the ranks of a range
+
+module _ (test : List ℕ → Bool) (n k from : ℕ) where
+  -- the ranks from the range's start up to, without, this one
+  unfoldable pub RangeClean : ℕ → Type 0
+  RangeClean rank = keep test (stretch n k from rank) ≡ []
+
+  -- a rank of the range, counted from its start
+  placed : (rank : ℕ) → from ≤ rank → getD (drop from (revolving n k)) (rank - from) [] ≡ setAt n k rank
+  placed rank low =
+      let same : from + (rank - from) ≡ rank = omega arith in
+      getD-drop from (revolving n k) (rank - from) [] ∙ ap (setAt n k) same
+
+  left : (rank : ℕ) → from ≤ rank → rank < binom n k → rank - from < length (drop from (revolving n k))
+  left rank low h = omega (arith, length-drop from (revolving n k), revolving-length n k)
+
+  pub rank-start : RangeClean from
+  unfolding RangeClean
+  rank-start =
+      let none : from - from ≡ 0 = omega arith in
+      ap (λ (i : ℕ). keep test (take i (drop from (revolving n k)))) none ∙ ap (keep test) (nothing (drop from (revolving n k)))
+    where
+      nothing : {A : Type 0} (l : List A) → take 0 l ≡ []
+      nothing [] = refl
+      nothing (x ∷ l) = refl
+
+  pub rank-next : (rank : ℕ) → from ≤ rank → rank < binom n k → RangeClean rank → test (setAt n k rank) ≡ false → RangeClean (rank + 1)
+  unfolding RangeClean
+  rank-next rank low h clean e =
+      let more : rank + 1 - from ≡ rank - from + 1 = omega arith in
+      ap (λ (i : ℕ). keep test (take i (drop from (revolving n k)))) more
+      ∙ keep-none-more test (drop from (revolving n k)) (rank - from) [] (left rank low h) clean (ap test (placed rank low) ∙ e)
+
+  pub rank-first : (rank to : ℕ) → from ≤ rank → rank < to → to ≤ binom n k → keep test (stretch n k from rank) ≡ [] → test (setAt n k rank) ≡ true
+      → (later : List (List ℕ)) × (keep test (stretch n k from to) ≡ setAt n k rank ∷ later)
+  rank-first rank to low high h clean e =
+      let part = drop from (revolving n k) in
+      let i = rank - from in
+      let less : i < to - from = omega arith in
+      let short : length (stretch n k from to) ≡ to - from = length-take-le (to - from) part (omega (arith, length-drop from (revolving n k), revolving-length n k)) in
+      let here : getD (stretch n k from to) i [] ≡ setAt n k rank = getD-take (to - from) part i [] less ∙ placed rank low in
+      let rest = keep test (drop (suc i) (stretch n k from to)) in (
+        rest,
+        keep-found test (stretch n k from to) i [] (omega (arith, short))
+            (ap (keep test) (take-take i (to - from) part (omega arith)) ∙ clean) (ap test here ∙ e)
+            ∙ ap {B = List (List ℕ)} (λ s. s ∷ rest) here,
+      )
+
+  pub rank-found : (rank to : ℕ) (held old : List ℕ) → from ≤ rank → rank < to → to ≤ binom n k → RangeClean rank
+      → true ≡ test (setAt n k rank) → held ≡ setAt n k rank ++ drop k old → FirstRank test n k from to rank held
+  unfolding RangeClean
+  rank-found rank to held old low high h clean e unranked =
+      let counted : rank < binom n k = omega arith in
+      let set = setAt n k rank in
+      record {
+        low = low;
+        high = omega arith;
+        clean = clean;
+        found = λ less. (sym e, ap (take k) unranked ∙ take-at set (drop k old) k (isSet-parts n k set (set-at-is-set n k rank counted) .0));
+      }
+
+  pub rank-none : (rank to : ℕ) (held : List ℕ) → from ≤ rank → rank ≤ to → to ≤ rank → RangeClean rank → FirstRank test n k from to rank held
+  unfolding RangeClean
+  rank-none rank to held low high out clean =
+      record { low = low; high = high; clean = clean; found = λ less. let z : ⊥ = omega arith in absurd z }

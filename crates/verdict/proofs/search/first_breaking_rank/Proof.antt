@@ -1,0 +1,69 @@
+-- `verdict::search::first_breaking_rank` meets its contract: before each turn nothing was found in the ranks below, and one that breaks is then the
+-- first. Assumes nothing.
+use Prim.Native.Nat.{_-_, _≤_}
+use native.Mathlib.Omega.{arith}
+use mathlib.Core.Path.{_≡_, refl, sym, _∙_}
+use lib.ListN.{length}
+use borrow.Author.Needs.{needs}
+use Rattle.records.specs.Layout.{wireCount}
+use Rattle.verdict.specs.Search.{isBreaking}
+use Rattle.verdict.proofs.Turns.{RangeClean, rank-start, rank-next, rank-found, rank-none}
+use Rattle.verdict.proofs.search.first_breaking_rank.Statement.{statement}
+use Rattle.verdict.proofs.search.first_breaking_rank.Tie as tie
+
+abbrev Inv-loop : tie.InvT-loop
+Inv-loop table counts notion size from to probes₀ wires rank₀ probes rank =
+    (length probes ≡ length probes₀) × (from ≤ rank) × (rank ≤ to) × RangeClean (isBreaking notion table 8 64) (wireCount table) size from rank
+
+abbrev μ-loop : tie.MeasureT-loop
+μ-loop table counts notion size from to probes₀ wires rank₀ probes rank = to - rank
+
+loop-holds : tie.Need-loop-holds Inv-loop μ-loop
+loop-holds c = (refl, search needs, search needs, rank-start _ _ _ _)
+
+rank-breaks-requires : tie.Need-rank-breaks-requires Inv-loop μ-loop
+rank-breaks-requires c κs = search needs
+
+same-length : tie.Need-same-length Inv-loop μ-loop
+same-length c = search needs
+
+returns : tie.Need-returns Inv-loop μ-loop
+returns c =
+    let l = c .before .before .before .before .before .before .loop in
+    let looked = c .before .before .before .rank-breaks .ensures in
+    rank-found _ _ _ _ _ _ _ _ (l .inv .1) (search needs) (search needs) (l .inv .3) (sym (c .if1 .taken) ∙ looked .0) (looked .1)
+
+add-rank : tie.Need-add-rank Inv-loop μ-loop
+add-rank c = search needs
+
+loop-less : tie.Need-loop-less Inv-loop μ-loop
+loop-less c = search needs
+
+loop-again : tie.Need-loop-again Inv-loop μ-loop
+loop-again c =
+    let l = c .before .before .before .before .before .before .loop in
+    let looked = c .before .before .before .rank-breaks .ensures in
+    (search needs, search needs, search needs, rank-next _ _ _ _ _ (l .inv .1) (search needs) (l .inv .3) (sym (looked .0) ∙ c .if1 .left))
+
+same-length-2 : tie.Need-same-length-2 Inv-loop μ-loop
+same-length-2 c = search needs
+
+returns-2 : tie.Need-returns-2 Inv-loop μ-loop
+returns-2 c =
+    let l = c .before .loop in rank-none _ _ _ _ _ _ _ (l .inv .1) (l .inv .2) (c .loop-test .left) (l .inv .3)
+
+pub first-breaking-rank-spec : {M : Type 1} → statement M
+first-breaking-rank-spec =
+    tie.close
+    (tie.spec
+    Inv-loop
+    μ-loop
+    loop-holds
+    rank-breaks-requires
+    same-length
+    returns
+    add-rank
+    loop-less
+    loop-again
+    same-length-2
+    returns-2)

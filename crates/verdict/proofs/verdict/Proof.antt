@@ -1,0 +1,110 @@
+-- `verdict::verdict` meets its contract: each refusal where its test is the first to fail, with the buffer as it was, else what the search found.
+-- Assumes nothing.
+use mathlib.Core.Path.{sym, _∙_, ap}
+use borrow.Author.Needs.{needs}
+use Rattle.verdict.specs.Answers.{openedTold}
+use Rattle.verdict.proofs.Entries.{before, order-low, order-high, no-room, found-none, found-set, short, order-within, size-within}
+use Rattle.verdict.proofs.verdict.Statement.{statement}
+use Rattle.verdict.proofs.verdict.Tie as tie
+
+opening-requires : tie.Need-opening-requires
+opening-requires c κs = search needs
+
+enum-known-opened : tie.Need-enum-known-opened
+enum-known-opened c = search needs
+
+enum-known-opened-2 : tie.Need-enum-known-opened-2
+enum-known-opened-2 c = search needs
+
+returns : tie.Need-returns
+returns c =
+    let a = c .before .before .before .before .before .before .before .args in
+    let p = order-low (a .table .now) (a .shares) (a .masks) (a .notion) (a .order) (a .set .now) _ (ap openedTold (sym (c .before .before .opened2 .given .1)) ∙ c .before .before .before .before .opening .ensures) (c .if1 .taken) in
+    (p .equation, p .guarantee)
+
+returns-2 : tie.Need-returns-2
+returns-2 c =
+    let a = c .before .before .before .before .before .before .before .before .args in
+    let p = order-high (a .table .now) (a .shares) (a .masks) (a .notion) (a .order) (a .set .now) _ (ap openedTold (sym (c .before .before .before .opened2 .given .1)) ∙ c .before .before .before .before .before .opening .ensures) (c .if2 .taken) in
+    (p .equation, p .guarantee)
+
+returns-3 : tie.Need-returns-3
+returns-3 c =
+    let a = c .before .before .before .before .before .before .before .before .before .args in
+    let p = no-room (a .table .now) (a .shares) (a .masks) (a .notion) (a .order) (a .set .now) _ (ap openedTold (sym (c .before .before .before .before .opened2 .given .1)) ∙ c .before .before .before .before .before .before .opening .ensures) (c .before .before .if1 .left) (c .before .if2 .left) (c .if3 .taken) in
+    (p .equation, p .guarantee)
+
+slice-aggregate-first-breaking : tie.Need-slice-aggregate-first-breaking
+slice-aggregate-first-breaking c = search needs
+
+first-breaking-requires : tie.Need-first-breaking-requires
+first-breaking-requires c κs =
+    let a = c .before .before .before .before .before .before .before .before .before .before .args in
+    let told = (ap openedTold (sym (c .before .before .before .before .before .opened2 .given .1)) ∙ c .before .before .before .before .before .before .before .opening .ensures) in
+    (short (a .table .now) (a .shares) (a .masks) (a .notion) _ told, order-within (a .table .now) (a .shares) (a .masks) (a .notion) _ told (a .order) (c .before .before .if2 .left), order-within (a .table .now) (a .shares) (a .masks) (a .notion) _ told (a .order) (c .before .before .if2 .left))
+
+returns-4 : tie.Need-returns-4
+returns-4 c =
+    let a = c .before .before .before .before .before .before .before .before .before .before .before .before .before .args in
+    let p = found-none (a .table .now) (a .shares) (a .masks) (a .notion) (a .order) (a .set .now) _ (ap openedTold (sym (c .before .before .before .before .before .before .before .before .opened2 .given .1)) ∙ c .before .before .before .before .before .before .before .before .before .before .opening .ensures)
+    (c .before .before .before .before .before .before .if1 .left) (c .before .before .before .before .before .if2 .left) (c .before .before .before .before .if3 .left) _ _ (c .before .before .first-breaking .ensures) (c .if4 .taken) in
+    (p .equation, p .guarantee)
+
+sub-write : tie.Need-sub-write
+sub-write c = search needs
+
+part-write-start : tie.Need-part-write-start
+part-write-start c = search needs
+
+part-write-end : tie.Need-part-write-end
+part-write-end c =
+    let a = c .before .before .before .before .before .before .before .before .before .before .before .before .before .before .args in
+    let told = (ap openedTold (sym (c .before .before .before .before .before .before .before .before .before .opened2 .given .1)) ∙ c .before .before .before .before .before .before .before .before .before .before .before .opening .ensures) in
+    let most = size-within (a .table .now) (a .shares) (a .masks) (a .notion) (a .order) (a .set .now) _ told (c .before .before .before .before .before .before .before .if1 .left) (c .before .before .before .before .before .before .if2 .left) (c .before .before .before .before .before .if3 .left) _ _ (c .before .before .before .first-breaking .ensures) in
+    let seven = order-within (a .table .now) (a .shares) (a .masks) (a .notion) _ told (a .order) (c .before .before .before .before .before .before .if2 .left) in
+    search needs
+
+write-requires : tie.Need-write-requires
+write-requires c κs =
+    let a = c .before .before .before .before .before .before .before .before .before .before .before .before .before .before .before .before .args in
+    let told = (ap openedTold (sym (c .before .before .before .before .before .before .before .before .before .before .before .opened2 .given .1)) ∙ c .before .before .before .before .before .before .before .before .before .before .before .before .before .opening .ensures) in
+    let most = size-within (a .table .now) (a .shares) (a .masks) (a .notion) (a .order) (a .set .now) _ told (c .before .before .before .before .before .before .before .before .before .if1 .left) (c .before .before .before .before .before .before .before .before .if2 .left) (c .before .before .before .before .before .before .before .if3 .left) _ _ (c .before .before .before .before .before .first-breaking .ensures) in
+    let seven = order-within (a .table .now) (a .shares) (a .masks) (a .notion) _ told (a .order) (c .before .before .before .before .before .before .before .before .if2 .left) in
+    search needs
+
+returns-5 : tie.Need-returns-5
+returns-5 c =
+    let a = c .before .before .before .before .before .before .args in
+    let p = before (a .table .now) (a .shares) (a .masks) (a .notion) (a .order) (a .set .now) _ (ap openedTold (sym (c .before .opened .given .1)) ∙ c .before .before .before .opening .ensures) in
+    (p .equation, p .guarantee)
+
+same-length : tie.Need-same-length
+same-length c = search needs
+
+returns-6 : tie.Need-returns-6
+returns-6 c =
+    let a = c .before .before .before .before .before .before .before .before .before .before .before .before .before .before .before .before .before .before .before .args in
+    let p = found-set (a .table .now) (a .shares) (a .masks) (a .notion) (a .order) (a .set .now) _ (ap openedTold (sym (c .before .before .before .before .before .before .before .before .before .before .before .before .before .before .opened2 .given .1)) ∙ c .before .before .before .before .before .before .before .before .before .before .before .before .before .before .before .before .opening .ensures)
+    (c .before .before .before .before .before .before .before .before .before .before .before .before .if1 .left) (c .before .before .before .before .before .before .before .before .before .before .before .if2 .left) (c .before .before .before .before .before .before .before .before .before .before .if3 .left) _ _ (c .before .before .before .before .before .before .before .before .first-breaking .ensures) (c .before .before .before .before .before .before .if4 .left) _ (c .before .before .write .ensures) in
+    (p .equation, p .guarantee)
+
+pub verdict-spec : {M : Type 1} → statement M
+verdict-spec =
+    tie.close
+    (tie.spec
+    opening-requires
+    enum-known-opened
+    enum-known-opened-2
+    returns
+    returns-2
+    returns-3
+    slice-aggregate-first-breaking
+    first-breaking-requires
+    returns-4
+    sub-write
+    part-write-start
+    part-write-end
+    write-requires
+    returns-5
+    same-length
+    returns-6)

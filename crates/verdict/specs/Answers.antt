@@ -1,0 +1,105 @@
+-- Each answer of `verdict` in the scope's own numbers, and what each entry answers (scope, "Numbering and dividing" and "What each operation
+-- turns down").
+--     refusalNumber              the scope's number of each refusal
+--     verdictTold, rangeTold     what each answer of the code tells, with what the lent buffer then holds
+--     wrongNotion, wrongOrder    the tests 14 and 15
+--     notionOf                   the notion of a number: 1 NI, 2 SNI
+--     notionNumber               the number of a notion
+--     opened                     the tests of a table and of the notion, then what the operation itself answers
+--     openedTold, opens          what these tests tell by themselves
+--     written                    a set at the start of a buffer
+--     verdictOf, rangeCheck      what each entry is to tell, and what the buffer is to hold
+use Prim.Native.Nat.{ℕ}
+use mathlib.Core.Bool.{Bool, cond, not, _&&_, _||_}
+use mathlib.Core.List.{List, [], _∷_, _++_}
+use lib.Dec.{ltb, leb, eqb}
+use lib.ListN.{length, drop}
+use Rattle.basics.specs.Told.{Told, Lent, values, refusal, turnedDown}
+use Rattle.wires.specs.declared.Notion.{Notion}
+use Rattle.wires.specs.declared.Notion.the-variants.{Ni, Sni}
+use Rattle.records.specs.Layout.{wireCount}
+use Rattle.table.specs.Answers as table-answers
+use Rattle.counts.specs.Counts.{binom}
+use Rattle.sets.specs.Order.{rankOf}
+use Rattle.sets.specs.Answers.{maxSize}
+use Rattle.verdict.specs.declared.Refusal.{Refusal}
+use Rattle.verdict.specs.declared.Refusal.the-variants.{Table, NoSuchNotion, OrderOutOfRange, BufferTooShort, SizeTooLarge, RanksOutOfRange}
+use Rattle.verdict.specs.declared.Opened.{Opened}
+use Rattle.verdict.specs.declared.VerdictAnswer.{VerdictAnswer}
+use Rattle.verdict.specs.declared.RangeAnswer.{RangeAnswer}
+use Rattle.verdict.specs.Search.{searched, stretch, breakingSets}
+
+abbrev pub refusalNumber : Refusal → ℕ
+refusalNumber (Table why) = table-answers.refusalNumber why
+refusalNumber NoSuchNotion = 14
+refusalNumber OrderOutOfRange = 15
+refusalNumber BufferTooShort = 16
+refusalNumber SizeTooLarge = 17
+refusalNumber RanksOutOfRange = 18
+
+-- holds has no value; broken has the set's size
+abbrev pub verdictTold : VerdictAnswer → List ℕ → Lent
+verdictTold VerdictAnswer.Holds held = record { told = values []; held = held }
+verdictTold (VerdictAnswer.Broken size) held = record { told = values (size ∷ []); held = held }
+verdictTold (VerdictAnswer.Refused why) held = record { told = refusal (refusalNumber why); held = held }
+
+-- clean has no value; found has the set's size and its rank
+abbrev pub rangeTold : RangeAnswer → List ℕ → Lent
+rangeTold RangeAnswer.Clean held = record { told = values []; held = held }
+rangeTold (RangeAnswer.Found size rank) held = record { told = values (size ∷ rank ∷ []); held = held }
+rangeTold (RangeAnswer.Refused why) held = record { told = refusal (refusalNumber why); held = held }
+
+-- 14, notion not 1 (NI) or 2 (SNI)
+abbrev pub wrongNotion : ℕ → Bool
+wrongNotion notion = not (eqb notion 1 || eqb notion 2)
+
+-- 15, order not 1 to shares − 1
+abbrev pub wrongOrder : ℕ → ℕ → Bool
+wrongOrder shares order = not (leb 1 order && ltb order shares)
+
+abbrev pub notionOf : ℕ → Notion
+notionOf notion = cond (eqb notion 1) Ni Sni
+
+-- both operations on a table first make these tests, in this order
+abbrev pub opened : {A : Type 0} → (ℕ → A) → List ℕ → ℕ → ℕ → ℕ → A → A
+opened refuse table shares masks notion answer = table-answers.tested refuse table shares masks (cond (wrongNotion notion) (refuse 14) answer)
+
+unfoldable pub notionNumber : Notion → ℕ
+notionNumber Ni = 1
+notionNumber Sni = 2
+
+abbrev pub openedTold : Opened → Told
+openedTold (Opened.For kind) = values (notionNumber kind ∷ [])
+openedTold (Opened.Refused why) = refusal (refusalNumber why)
+
+abbrev pub opens : List ℕ → ℕ → ℕ → ℕ → Told
+opens table shares masks notion = opened refusal table shares masks notion (values (notion ∷ []))
+
+-- what lies past the set is as it was
+abbrev pub written : List ℕ → List ℕ → List ℕ
+written set buffer = set ++ drop (length set) buffer
+
+-- the first breaking set in rising size and rank, its size told; where there is none, nothing is written
+abbrev pub firstShown : List (List ℕ) → List ℕ → Lent
+firstShown [] buffer = record { told = values []; held = buffer }
+firstShown (set ∷ later) buffer = record { told = values (length set ∷ []); held = written set buffer }
+
+abbrev pub verdictOf : List ℕ → ℕ → ℕ → ℕ → ℕ → List ℕ → Lent
+verdictOf table shares masks notion order buffer =
+    opened (λ number. turnedDown number buffer) table shares masks notion
+    (cond (wrongOrder shares order) (turnedDown 15 buffer)
+    (cond (ltb (length buffer) order) (turnedDown 16 buffer)
+    (firstShown (breakingSets (notionOf notion) table shares masks (searched (wireCount table) order)) buffer)))
+
+-- the first breaking set of one size within the ranks, its size and rank told; where there is none, nothing is written
+abbrev pub firstRanked : ℕ → List (List ℕ) → List ℕ → Lent
+firstRanked wires [] buffer = record { told = values []; held = buffer }
+firstRanked wires (set ∷ later) buffer = record { told = values (length set ∷ rankOf wires set ∷ []); held = written set buffer }
+
+abbrev pub rangeCheck : List ℕ → ℕ → ℕ → ℕ → ℕ → ℕ → ℕ → List ℕ → Lent
+rangeCheck table shares masks notion size from to buffer =
+    opened (λ number. turnedDown number buffer) table shares masks notion
+    (cond (ltb maxSize size) (turnedDown 17 buffer)
+    (cond (ltb (length buffer) size) (turnedDown 16 buffer)
+    (cond (not (leb from to && leb to (binom (wireCount table) size))) (turnedDown 18 buffer)
+    (firstRanked (wireCount table) (breakingSets (notionOf notion) table shares masks (stretch (wireCount table) size from to)) buffer))))

@@ -1,0 +1,7 @@
+-- The definitions that the promises of `verdict` cite.
+--     Search      the sets to look at, in order, and those that break
+--     Answers     each answer in the numbers of the scope, and what each entry answers
+--     Guarantee   demand 3
+pub mod Search
+pub mod Answers
+pub mod Guarantee

@@ -1,0 +1,177 @@
+// Verdicts: whether a gadget's table holds NI or SNI at an order, with the first breaking set where it does not, and the same for a range of ranks
+// of one size, so that machines can divide the search (scope, "Numbering and dividing" and "What each operation turns down"). Every argument may be
+// anything its type holds: what is out of range is refused, in the scope's order, and a refusal alters no lent number.
+ghost use mathlib.Core.Path.{_≡_};
+ghost use Prim.Native.Nat.{_≤_};
+ghost use lib.ListN.{length};
+ghost use Rattle.verdict.specs.Answers.{refusalNumber, openedTold, opens, verdictTold, verdictOf, rangeTold, rangeCheck, written};
+ghost use Rattle.verdict.specs.Guarantee.{Guarantee};
+use counts::count;
+use records::layout::RECORD_BYTES;
+use sets::MAX_SIZE;
+use table::TableAnswer;
+use table::table_check;
+use wires::Notion;
+
+mod search;
+
+// Why an entry turns its arguments down.
+pub enum Refusal {
+    Table(table::Refusal),
+    NoSuchNotion,
+    OrderOutOfRange,
+    BufferTooShort,
+    SizeTooLarge,
+    RanksOutOfRange,
+}
+
+impl Refusal {
+    // The scope's number of the refusal.
+    pub fn number(self) -> u64
+        ensures { λ r. ⌜ r ≡ refusalNumber self ⌝ }
+    {
+        match self {
+            Refusal::Table(why) => why.number(),
+            Refusal::NoSuchNotion => 14,
+            Refusal::OrderOutOfRange => 15,
+            Refusal::BufferTooShort => 16,
+            Refusal::SizeTooLarge => 17,
+            Refusal::RanksOutOfRange => 18,
+        }
+    }
+}
+
+// Broken gives the size of the set that is written.
+pub enum VerdictAnswer {
+    Holds,
+    Broken { size: usize },
+    Refused(Refusal),
+}
+
+// Found gives the size of the set that is written, and its rank.
+pub enum RangeAnswer {
+    Clean,
+    Found { size: usize, rank: u64 },
+    Refused(Refusal),
+}
+
+// The notion that was asked for, on a table that passed its tests.
+enum Opened {
+    For(Notion),
+    Refused(Refusal),
+}
+
+// The tests of the table, then 14: what both entries begin with.
+fn opening(table: &[u8], shares: usize, masks: usize, notion: usize) -> Opened
+    ensures { λ r. ⌜ openedTold r ≡ opens (now (table .entry)) shares masks notion ⌝ }
+{
+    let tested = table_check(table, shares, masks);
+    match tested {
+        TableAnswer::Refused(why) => Opened::Refused(Refusal::Table(why)),
+        TableAnswer::Accepted => match notion {
+            1 => Opened::For(Notion::Ni),
+            2 => Opened::For(Notion::Sni),
+            _ => Opened::Refused(Refusal::NoSuchNotion),
+        },
+    }
+}
+
+// Whether the table holds the notion (1, NI; 2, SNI) at an order. Where it does not, the first breaking set in rising size and rank is written,
+// rising, at the start of `set`.
+pub fn verdict(
+    table: &[u8],
+    shares: usize,
+    masks: usize,
+    notion: usize,
+    order: usize,
+    set: &mut [u16],
+) -> VerdictAnswer
+    ensures { λ r. ⌜ verdictTold r (now (set .exit)) ≡ verdictOf (now (table .entry)) shares masks notion order (now (set .entry)) ⌝ }
+    ensures { λ r. ⌜ Guarantee r (now (table .entry)) shares masks notion order (now (set .exit)) ⌝ }
+{
+    let opened = opening(table, shares, masks, notion);
+    match opened {
+        Opened::Refused(why) => VerdictAnswer::Refused(why),
+        Opened::For(kind) => {
+            if order < 1 {
+                return VerdictAnswer::Refused(Refusal::OrderOutOfRange);
+            }
+            if shares <= order {
+                return VerdictAnswer::Refused(Refusal::OrderOutOfRange);
+            }
+            if set.len() < order {
+                return VerdictAnswer::Refused(Refusal::BufferTooShort);
+            }
+            let mut probes = [0u16; 7];
+            let size = search::first_breaking(table, kind, order, &mut probes);
+            if size == 0 {
+                return VerdictAnswer::Holds;
+            }
+            write(&probes[0..size], set);
+            VerdictAnswer::Broken { size: size }
+        }
+    }
+}
+
+// Whether a set of one size breaks the notion at a rank from `from` up to, without, `to`. The first such set is written, rising, at the start of `set`.
+pub fn range_check(
+    table: &[u8],
+    shares: usize,
+    masks: usize,
+    notion: usize,
+    size: usize,
+    from: u64,
+    to: u64,
+    set: &mut [u16],
+) -> RangeAnswer
+    ensures { λ r. ⌜ rangeTold r (now (set .exit)) ≡ rangeCheck (now (table .entry)) shares masks notion size from to (now (set .entry)) ⌝ }
+{
+    let opened = opening(table, shares, masks, notion);
+    match opened {
+        Opened::Refused(why) => RangeAnswer::Refused(why),
+        Opened::For(kind) => {
+            if MAX_SIZE < size {
+                return RangeAnswer::Refused(Refusal::SizeTooLarge);
+            }
+            if set.len() < size {
+                return RangeAnswer::Refused(Refusal::BufferTooShort);
+            }
+            let counts = counts::table();
+            let all = count(&counts, table.len() / RECORD_BYTES, size);
+            if to < from {
+                return RangeAnswer::Refused(Refusal::RanksOutOfRange);
+            }
+            if all < to {
+                return RangeAnswer::Refused(Refusal::RanksOutOfRange);
+            }
+            let mut probes = [0u16; 7];
+            let rank = search::first_breaking_rank(
+                table,
+                &counts,
+                kind,
+                size,
+                from,
+                to,
+                &mut probes,
+            );
+            if to <= rank {
+                return RangeAnswer::Clean;
+            }
+            write(&probes[0..size], set);
+            RangeAnswer::Found {
+                size: size,
+                rank: rank,
+            }
+        }
+    }
+}
+
+// Writes a set to the start of a buffer, and nothing past it.
+fn write(found: &[u16], set: &mut [u16])
+    requires { ⌜ length (now found) ≤ length (now set) ⌝ }
+    ensures { λ r. ⌜ now (set .exit) ≡ written (now (found .entry)) (now (set .entry)) ⌝ }
+{
+    for i in 0..found.len() {
+        set[i] = found[i];
+    }
+}
