@@ -31,7 +31,7 @@ values-are x y m e = let z : _≡_ {A = ℕ} 0 1 = cc in omega arith
 
 -- a job's ranks, as told
 module _ (n k jobs : ℕ) (a : n ≤ 512) (b : k ≤ 7) (some : 0 < jobs) (c : jobs ≤ 65536) where
-  job-told : (i : ℕ) → i < jobs → jobRanks n k i jobs ≡ values (start (binom n k) jobs i ∷ start (binom n k) jobs (suc i) ∷ [])
+  pub job-told : (i : ℕ) → i < jobs → jobRanks n k i jobs ≡ values (start (binom n k) jobs i ∷ start (binom n k) jobs (suc i) ∷ [])
   job-told i d = simp (le-ltb 512 n a, le-ltb 7 k b, ne-eqb jobs 0 (omega arith), le-ltb 65536 jobs c, lt-leb jobs i d)
 
   job-refused : (i : ℕ) → jobs ≤ i → jobRanks n k i jobs ≡ refusal 19

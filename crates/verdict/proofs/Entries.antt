@@ -86,8 +86,8 @@ pub record Promise (answer : VerdictAnswer) (held table : List ℕ) (shares mask
   pub guarantee : Guarantee answer table shares masks notion order held
 
 module _ (table : List ℕ) (shares masks notion order : ℕ) (buffer : List ℕ) where
-  abbrev answer : Lent
-  answer =
+  abbrev pub verdict-answer : Lent
+  verdict-answer =
       cond (wrongOrder shares order) (turnedDown 15 buffer)
       (cond (ltb (length buffer) order) (turnedDown 16 buffer)
       (firstShown (keep (isBreaking (notionOf notion) table shares masks) (searched (wireCount table) order)) buffer))
@@ -95,15 +95,15 @@ module _ (table : List ℕ) (shares masks notion order : ℕ) (buffer : List ℕ
   pub before : (why : Refusal) → openedTold (Opened.Refused why) ≡ opens table shares masks notion
       → Promise (VerdictAnswer.Refused why) buffer table shares masks notion order buffer
   before why e = record {
-    equation = sym (opened-refusal table shares masks notion (λ number. turnedDown number buffer) answer (refusalNumber why) e);
+    equation = sym (opened-refusal table shares masks notion (λ number. turnedDown number buffer) verdict-answer (refusalNumber why) e);
     guarantee = refused table shares masks notion order why buffer;
   }
 
   module _ (kind : Notion) (told : openedTold (Opened.For kind) ≡ opens table shares masks notion) where
-    own-answer : verdictOf table shares masks notion order buffer ≡ answer
-    own-answer = opened-answer table shares masks notion (λ number. turnedDown number buffer) answer kind (opened-for table shares masks notion kind told)
+    own-answer : verdictOf table shares masks notion order buffer ≡ verdict-answer
+    own-answer = opened-answer table shares masks notion (λ number. turnedDown number buffer) verdict-answer kind (opened-for table shares masks notion kind told)
 
-    turned : (why : Refusal) → turnedDown (refusalNumber why) buffer ≡ answer → Promise (VerdictAnswer.Refused why) buffer table shares masks notion order buffer
+    turned : (why : Refusal) → turnedDown (refusalNumber why) buffer ≡ verdict-answer → Promise (VerdictAnswer.Refused why) buffer table shares masks notion order buffer
     turned why e = record { equation = e ∙ sym own-answer; guarantee = refused table shares masks notion order why buffer }
 
     pub order-low : order < 1 → Promise (VerdictAnswer.Refused OrderOutOfRange) buffer table shares masks notion order buffer
@@ -124,7 +124,7 @@ module _ (table : List ℕ) (shares masks notion order : ℕ) (buffer : List ℕ
         same : keep (isBreaking kind table 8 64) (searched (wireCount table) order) ≡ sets
         same = searched-decided table shares masks notion kind (opened-for table shares masks notion kind told) order
 
-        shows : firstShown sets buffer ≡ answer
+        shows : firstShown sets buffer ≡ verdict-answer
         shows = simp (le-leb 1 order low, lt-ltb order shares high, le-ltb (length buffer) order room)
 
         long : size ≡ length (first sets)
@@ -172,7 +172,7 @@ module _ (table : List ℕ) (shares masks notion size from to : ℕ) (buffer : L
   abbrev all : ℕ
   all = binom (wireCount table) size
 
-  abbrev range-answer : Lent
+  abbrev pub range-answer : Lent
   range-answer =
       cond (ltb 7 size) (turnedDown 17 buffer)
       (cond (ltb (length buffer) size) (turnedDown 16 buffer)

@@ -4,3 +4,5 @@ pub mod Admitting
 pub mod Writing
 pub mod Watching
 pub mod Entries
+pub mod Jobs
+pub mod Examples

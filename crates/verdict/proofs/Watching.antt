@@ -1,6 +1,7 @@
 -- Demand 3: the search by breaking sets answers the question about what a watcher can learn.
---     Looked, searched-looked      what every set that is searched is: one to watch, and not empty
---     set-watched, pick-watched    a set of a size up to the order is one to watch, and so is every part of one to watch
+--     chosen-watched, set-watched, watched-set     a set to watch is a set of a size up to the order
+--     pick-watched                 a part of a set to watch is one to watch
+--     of-size, each-size, each-searched     what holds of every set that is searched holds of every set of a size up to the order
 --     all-whole                    where the search finds nothing, no set to watch breaks
 --     all-choose                   and then every set to watch has a choice of shares
 --     shown-none                   the first breaking set is one to watch, and has none
@@ -77,7 +78,7 @@ module _ (table : List ℕ) where
 
 module _ (n : ℕ) where
   -- every set of a size is found at its rank
-  of-size : (P : List ℕ → Type 0) (k : ℕ) → Each P (revolving n k) → (s : List ℕ) → isSet n k s ≡ true → P s
+  pub of-size : (P : List ℕ → Type 0) (k : ℕ) → Each P (revolving n k) → (s : List ℕ) → isSet n k s ≡ true → P s
   of-size P k each s e =
       let there = set-of-rank n k s e in
       subst P (there .1) (at-place P (revolving n k) [] each (rankOf n s) (omega (arith, there .0, revolving-length n k)))

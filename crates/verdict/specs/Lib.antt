@@ -2,6 +2,8 @@
 --     Search      the sets to look at, in order, and those that break
 --     Answers     each answer in the numbers of the scope, and what each entry answers
 --     Guarantee   demand 3
+--     Jobs        what machines find that divide a search
 pub mod Search
 pub mod Answers
 pub mod Guarantee
+pub mod Jobs

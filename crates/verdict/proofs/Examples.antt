@@ -1,0 +1,74 @@
+-- Examples, proved by running the definitions: the scope's texts A, B and C, a break that takes two wires, and the refusals on both sides of their limits.
+--     pair     a table in which no wire breaks by itself, and wires 1 and 2 together do
+use Prim.Native.Nat.{ℕ}
+use mathlib.Core.Path.{_≡_, refl}
+use mathlib.Core.Bool.{xor}
+use mathlib.Core.List.{List, [], _∷_, _++_, map}
+use Rattle.basics.specs.Folds.{upTo}
+use Rattle.basics.specs.Told.{Lent, values, refusal}
+use Rattle.wires.specs.Wires.{countA, masked, breaks, beyond}
+use Rattle.records.specs.Words.{bit}
+use Rattle.counts.specs.Counts.{binom}
+use Rattle.sets.specs.Order.{revolving}
+use Rattle.table.proofs.Examples.{record8, tableA, tableB, tableC}
+use Rattle.verdict.specs.Search.{searched, isBreaking}
+use Rattle.verdict.specs.Answers.{verdictOf, rangeCheck}
+
+-- an answer with values, and a buffer of three numbers
+abbrev gives : List ℕ → ℕ → ℕ → ℕ → Lent
+gives v x y z = record { told = values v; held = x ∷ y ∷ z ∷ [] }
+
+abbrev turns : ℕ → Lent
+turns number = record { told = refusal number; held = 9 ∷ 9 ∷ 9 ∷ [] }
+
+abbrev room : List ℕ
+room = 9 ∷ 9 ∷ 9 ∷ []
+
+-- text A holds NI and SNI; text B breaks both with wire 6; text C holds NI and breaks SNI with wire 2
+pub texts : (map (λ notion. verdictOf tableA 2 1 notion 1 room) (1 ∷ 2 ∷ []) ≡ gives [] 9 9 9 ∷ gives [] 9 9 9 ∷ [])
+    × (map (λ notion. verdictOf tableB 2 1 notion 1 room) (1 ∷ 2 ∷ []) ≡ gives (1 ∷ []) 6 9 9 ∷ gives (1 ∷ []) 6 9 9 ∷ [])
+    × (map (λ notion. verdictOf tableC 2 0 notion 1 room) (1 ∷ 2 ∷ []) ≡ gives [] 9 9 9 ∷ gives (1 ∷ []) 2 9 9 ∷ [])
+unfolding searched isBreaking revolving breaks countA masked beyond bit upTo xor
+texts = (refl, refl, refl)
+
+-- of three shares: a0; a0 + r0; a1 + a2 + r0; r0 on an outer wire
+abbrev pub pair : List ℕ
+pair = record8 0 0 0 1 0 0 0 ++ record8 0 0 1 1 0 0 0 ++ record8 0 0 1 6 0 0 0 ++ record8 0 0 1 0 0 1 0
+
+-- wires 1 and 2 are the first pair that breaks NI at order 2; at order 1 it holds; under SNI wires 2 and 3 break too, but later
+pub two-wires : (map (λ order. verdictOf pair 3 1 1 order room) (1 ∷ 2 ∷ []) ≡ gives [] 9 9 9 ∷ gives (2 ∷ []) 1 2 9 ∷ [])
+    × (map (λ order. verdictOf pair 3 1 2 order room) (1 ∷ 2 ∷ []) ≡ gives [] 9 9 9 ∷ gives (2 ∷ []) 1 2 9 ∷ [])
+unfolding searched isBreaking revolving breaks countA masked beyond bit upTo xor
+two-wires = (refl, refl)
+
+-- the ranks of its pairs from 0 on: the find at rank 1, with its size and rank; none before it; under SNI the next at rank 3, under NI none
+pub ranges : (rangeCheck pair 3 1 1 2 0 6 room ≡ gives (2 ∷ 1 ∷ []) 1 2 9) × (rangeCheck pair 3 1 1 2 1 2 room ≡ gives (2 ∷ 1 ∷ []) 1 2 9)
+    × (rangeCheck pair 3 1 1 2 0 1 room ≡ gives [] 9 9 9) × (rangeCheck pair 3 1 1 2 1 1 room ≡ gives [] 9 9 9)
+    × (rangeCheck pair 3 1 1 2 2 6 room ≡ gives [] 9 9 9) × (rangeCheck pair 3 1 2 2 2 6 room ≡ gives (2 ∷ 3 ∷ []) 2 3 9)
+    × (rangeCheck pair 3 1 1 0 0 1 room ≡ gives [] 9 9 9)
+unfolding isBreaking revolving binom breaks countA masked beyond bit upTo xor
+ranges = (refl, refl, refl, refl, refl, refl, refl)
+
+-- 14, 15 and 16 of a verdict, on both sides, and which comes first
+pub verdict-refusals : (map (λ notion. verdictOf pair 3 1 notion 9 []) (0 ∷ 3 ∷ [])
+    ≡ record { told = refusal 14; held = [] } ∷ record { told = refusal 14; held = [] } ∷ [])
+    × (map (λ order. verdictOf pair 3 1 1 order room) (0 ∷ 3 ∷ []) ≡ turns 15 ∷ turns 15 ∷ [])
+    × (verdictOf pair 3 1 1 2 (9 ∷ []) ≡ record { told = refusal 16; held = 9 ∷ [] })
+    × (verdictOf pair 3 1 1 2 (9 ∷ 9 ∷ []) ≡ record { told = values (2 ∷ []); held = 1 ∷ 2 ∷ [] })
+    × (verdictOf pair 1 65 0 0 room ≡ turns 11) × (verdictOf (0 ∷ []) 2 0 0 0 room ≡ turns 12) × (verdictOf pair 2 1 0 0 room ≡ turns 13)
+unfolding searched isBreaking revolving breaks countA masked beyond bit upTo xor
+verdict-refusals = (refl, refl, refl, refl, refl, refl, refl)
+
+-- 14, 17, 16 and 18 of a range check, on both sides, and which comes first
+pub range-refusals : (rangeCheck pair 3 1 3 8 1 0 room ≡ turns 14) × (rangeCheck pair 3 1 2 8 1 0 [] ≡ record { told = refusal 17; held = [] })
+    × (rangeCheck pair 3 1 2 7 1 0 room ≡ turns 16) × (rangeCheck pair 3 1 2 3 1 0 room ≡ turns 18) × (rangeCheck pair 3 1 2 3 0 5 room ≡ turns 18)
+    × (rangeCheck pair 3 1 1 3 4 4 room ≡ gives [] 9 9 9) × (rangeCheck pair 3 1 1 3 5 5 room ≡ turns 18)
+    × (rangeCheck pair 3 2 1 3 0 4 room ≡ gives [] 9 9 9) × (rangeCheck pair 3 0 1 3 0 4 room ≡ turns 13)
+unfolding isBreaking revolving binom breaks countA masked beyond bit upTo xor
+range-refusals = (refl, refl, refl, refl, refl, refl, refl, refl, refl)
+
+-- an empty table holds, at every order of 8 shares, and has no set of size 1
+pub empty-table : (verdictOf [] 8 64 2 7 (9 ∷ 9 ∷ 9 ∷ 9 ∷ 9 ∷ 9 ∷ 9 ∷ []) ≡ record { told = values []; held = 9 ∷ 9 ∷ 9 ∷ 9 ∷ 9 ∷ 9 ∷ 9 ∷ [] })
+    × (rangeCheck [] 8 64 2 1 0 0 room ≡ gives [] 9 9 9) × (rangeCheck [] 8 64 2 1 0 1 room ≡ turns 18)
+unfolding searched isBreaking revolving binom breaks countA masked beyond bit upTo xor
+empty-table = (refl, refl, refl)

@@ -1,0 +1,264 @@
+-- A search that is divided over machines answers what one machine would, for any division into jobs.
+--     jobs-clean        every job of a size is clean exactly when no set of the size breaks
+--     jobs-either       every job is clean, or a job finds a set and those before it are clean
+--     jobs-first        then what is found first over the jobs is the first breaking set of the size, with its rank
+--     verdict-clean     a verdict holds exactly when all jobs of all sizes up to the order are clean
+--     verdict-first     else it shows what the jobs of the first size that is not clean find first
+use Prim.Native.Nat.{ℕ, zero, suc, _≤_, _<_}
+use native.Mathlib.Nat.{eq-or-lt-of-le, le-of-suc-le-suc, not-suc-le-zero, le-refl}
+use native.Mathlib.Omega.{arith}
+use mathlib.Core.Path.{_≡_, refl, sym, _∙_, ap, ap₂, subst}
+use mathlib.Core.Logic.{_⊎_, inl, inr, _↔_}
+use mathlib.Core.Bool.{Bool, true, false, _&&_}
+use mathlib.Core.List.{List, [], _∷_, _++_}
+use borrow.Author.Tests.{le-leb, lt-leb, le-ltb, lt-ltb}
+use lib.Dec.{ltb, leb}
+use lib.ListN.{length, take, drop}
+use lib.Seq.{take-append-seam}
+use Rattle.basics.specs.Folds.{keep}
+use Rattle.basics.specs.Told.{Lent, values, turnedDown}
+use Rattle.basics.proofs.Folds.{keep-append}
+use Rattle.records.specs.Layout.{wireCount}
+use Rattle.table.proofs.Entries.{accepted, accepted-exactly, shares-low}
+use Rattle.counts.specs.Counts.{binom}
+use Rattle.sets.specs.Order.{revolving, setAt, rankOf, isSet}
+use Rattle.sets.specs.Answers.{jobRanks}
+use Rattle.sets.proofs.Revolving.{revolving-length, set-at-is-set}
+use Rattle.sets.specs.Division.{start, visited, joined}
+use Rattle.sets.proofs.Division.{start-rises, start-within, jobs-joined}
+use Rattle.sets.proofs.Entries.{job-told}
+use Rattle.verdict.specs.Search.{searched, isBreaking}
+use Rattle.verdict.specs.Answers.{notionOf, firstShown, written, firstRanked, verdictOf, rangeCheck}
+use Rattle.verdict.specs.Jobs.{nothing, found, broken, Ordered, Asked, Divided, JobAnswers, AllClean, FirstFound}
+use Rattle.verdict.proofs.Keeping.{Each, each-place, keep-none, none-keep}
+use Rattle.verdict.proofs.Admitting.{Opens, opened-answer}
+use Rattle.verdict.proofs.Entries.{range-answer, verdict-answer}
+use Rattle.verdict.proofs.Turns.{first-of-size}
+use Rattle.verdict.proofs.Watching.{of-size, each-size, each-searched}
+
+-- ---- lists joined
+
+module _ (test : List ℕ → Bool) (g : ℕ → List (List ℕ)) where
+  none-joined : (j : ℕ) → ((i : ℕ) → i < j → keep test (g i) ≡ []) → keep test (joined j g) ≡ []
+  none-joined zero h = refl
+  none-joined (suc j) h =
+      keep-append test (joined j g) (g j)
+      ∙ ap₂ {C = List (List ℕ)} _++_ (none-joined j (λ i b. h i (omega arith))) (h j (omega arith))
+
+  parts : (j : ℕ) → keep test (joined (suc j) g) ≡ keep test (joined j g) ++ keep test (g j)
+  parts j = keep-append test (joined j g) (g j)
+
+  none-of : (j : ℕ) → keep test (joined j g) ≡ [] → (i : ℕ) → i < j → keep test (g i) ≡ []
+  none-of zero e i h = absurd (not-suc-le-zero h)
+  none-of (suc j) e i h =
+      let both = nil-parts (keep test (joined j g)) (keep test (g j)) (sym (parts j) ∙ e) in
+      go (eq-or-lt-of-le (le-of-suc-le-suc h)) both (none-of j (both .0) i)
+    where
+      nil-parts : (k l : List (List ℕ)) → k ++ l ≡ [] → (k ≡ []) × (l ≡ [])
+      nil-parts [] l e = (refl, e)
+      nil-parts (x ∷ k) l e = let z : _≡_ {A = ℕ} 0 1 = cc in let w : ⊥ = omega (arith, z) in absurd w
+
+      go : (i ≡ j) ⊎ (i < j) → (keep test (joined j g) ≡ []) × (keep test (g j) ≡ []) → (i < j → keep test (g i) ≡ []) → keep test (g i) ≡ []
+      go (inl same) both ih = ap (λ (k : ℕ). keep test (g k)) same ∙ both .1
+      go (inr less) both ih = ih less
+
+  first-joined : (j i : ℕ) (s : List ℕ) (later : List (List ℕ)) → i < j → ((k : ℕ) → k < i → keep test (g k) ≡ []) → keep test (g i) ≡ s ∷ later
+      → (rest : List (List ℕ)) × (keep test (joined j g) ≡ s ∷ rest)
+  first-joined zero i s later h none e = absurd (not-suc-le-zero h)
+  first-joined (suc j) i s later h none e = go (eq-or-lt-of-le (le-of-suc-le-suc h)) (first-joined j i s later)
+    where
+      go : (i ≡ j) ⊎ (i < j)
+          → (i < j → ((k : ℕ) → k < i → keep test (g k) ≡ []) → keep test (g i) ≡ s ∷ later → (rest : List (List ℕ)) × (keep test (joined j g) ≡ s ∷ rest))
+          → (rest : List (List ℕ)) × (keep test (joined (suc j) g) ≡ s ∷ rest)
+      go (inl same) ih =
+          (later, parts j ∙ ap₂ {C = List (List ℕ)} _++_ (none-joined j (λ k b. none k (omega arith))) (ap (λ (k : ℕ). keep test (g k)) (sym same) ∙ e))
+      go (inr less) ih =
+          let r = ih less none e in
+          (r .0 ++ keep test (g j), parts j ∙ ap {B = List (List ℕ)} (λ l. l ++ keep test (g j)) (r .1))
+
+-- ---- the answers of the jobs
+
+nothing-nil : (n : ℕ) (l : List (List ℕ)) (buffer : List ℕ) → firstRanked n l buffer ≡ nothing buffer → l ≡ []
+nothing-nil n [] buffer e = refl
+nothing-nil n (s ∷ later) buffer e =
+    let f = ap (λ (a : Lent). a .told) e in let z : _≡_ {A = ℕ} 0 1 = cc in let w : ⊥ = omega (arith, z) in absurd w
+
+module _ (table : List ℕ) (shares masks notion size jobs : ℕ) (buffer : List ℕ) (asked : Asked table shares masks notion size buffer)
+    (divided : Divided jobs) where
+  abbrev n : ℕ
+  n = wireCount table
+
+  abbrev test : List ℕ → Bool
+  test = isBreaking (notionOf notion) table shares masks
+
+  abbrev of-job : ℕ → List (List ℕ)
+  of-job i = keep test (visited n size jobs i)
+
+  wires : n ≤ 512
+  wires = omega (arith, accepted-exactly table shares masks .0 (asked .sound) .short)
+
+  abbrev bound : ℕ → ℕ
+  bound i = start (binom n size) jobs i
+
+  admitted : Opens table shares masks notion (notionOf notion)
+  admitted = record { sound = accepted table shares masks (asked .sound); known = asked .known; named = refl }
+
+  -- what a job's range check answers
+  checked : (i : ℕ) → i < jobs → rangeCheck table shares masks notion size (bound i) (bound (suc i)) buffer ≡ firstRanked n (of-job i) buffer
+  checked i h =
+      let rises = start-rises (binom n size) jobs i (divided .some) in
+      let ends = start-within (binom n size) jobs (suc i) (divided .some) h in
+      let answer : range-answer table shares masks notion size (bound i) (bound (suc i)) buffer ≡ firstRanked n (of-job i) buffer =
+      simp (le-ltb 7 size (asked .small), le-ltb (length buffer) size (asked .room), le-leb (bound i) (bound (suc i)) rises, le-leb (bound (suc i)) (binom n size) ends) in
+      opened-answer table shares masks notion (λ number. turnedDown number buffer)
+      (range-answer table shares masks notion size (bound i) (bound (suc i)) buffer) (notionOf notion) admitted
+      ∙ answer
+
+  told : (i : ℕ) → i < jobs → jobRanks n size i jobs ≡ values (bound i ∷ bound (suc i) ∷ [])
+  told = job-told n size jobs wires (asked .small) (divided .some) (divided .few)
+
+  job-answers : (i : ℕ) → i < jobs → (answer : Lent) → firstRanked n (of-job i) buffer ≡ answer → JobAnswers table shares masks notion size jobs i buffer answer
+  job-answers i h answer e = record { from = bound i; to = bound (suc i); told = told i h; answers = checked i h ∙ e }
+
+  answers-job : (i : ℕ) → i < jobs → (answer : Lent) → JobAnswers table shares masks notion size jobs i buffer answer → firstRanked n (of-job i) buffer ≡ answer
+  answers-job i h answer j =
+      let p = j .told in
+      let q = told i h in
+      let e : bound i ≡ j .from = cc in
+      let f : bound (suc i) ≡ j .to = cc in
+      sym (checked i h) ∙ ap₂ (λ (a b : ℕ). rangeCheck table shares masks notion size a b buffer) e f ∙ j .answers
+
+  clean-none : AllClean table shares masks notion size jobs buffer → keep test (revolving n size) ≡ []
+  clean-none clean =
+      ap (keep test) (sym (jobs-joined n size jobs (divided .some)))
+      ∙ none-joined test (visited n size jobs) jobs (λ i h. nothing-nil n (of-job i) buffer (answers-job i h (nothing buffer) (clean i h)))
+
+  none-clean : keep test (revolving n size) ≡ [] → AllClean table shares masks notion size jobs buffer
+  none-clean none i h =
+      job-answers i h (nothing buffer)
+      (ap (λ (l : List (List ℕ)). firstRanked n l buffer)
+      (none-of test (visited n size jobs) jobs (ap (keep test) (jobs-joined n size jobs (divided .some)) ∙ none) i h))
+
+  pub jobs-clean : AllClean table shares masks notion size jobs buffer ↔ ((s : List ℕ) → isSet n size s ≡ true → test s ≡ false)
+  jobs-clean = (
+    λ clean. of-size n (λ s. test s ≡ false) size (keep-none test (revolving n size) (clean-none clean)),
+    λ whole. none-clean
+        (none-keep test (revolving n size)
+        (each-place (λ s. test s ≡ false) (revolving n size) []
+        (λ i h. whole (setAt n size i) (set-at-is-set n size i (omega (arith, revolving-length n size)))))),
+  )
+
+  pub jobs-first : (s : List ℕ) (rank : ℕ) → FirstFound table shares masks notion size jobs buffer s rank
+      → (later : List (List ℕ)) × (keep test (revolving n size) ≡ s ∷ later) × (rank ≡ rankOf n s)
+  jobs-first s rank f = go (of-job (f .job)) refl (answers-job (f .job) (f .one) (found s rank buffer) (f .finds))
+    where
+      -- equal lists after which equal ones stand
+      front : (p q : List ℕ) → length p ≡ length q → written p buffer ≡ written q buffer → p ≡ q
+      front p q long e =
+          sym (take-append-seam p (drop (length p) buffer)) ∙ ap₂ {C = List ℕ} take long e ∙ take-append-seam q (drop (length q) buffer)
+
+      none : (k : ℕ) → k < f .job → keep test (visited n size jobs k) ≡ []
+      none k h =
+          nothing-nil n (of-job k) buffer
+          (answers-job k (omega (arith, f .one)) (nothing buffer) (f .before k h))
+
+      go : (l : List (List ℕ)) → of-job (f .job) ≡ l → firstRanked n l buffer ≡ found s rank buffer
+          → (later : List (List ℕ)) × (keep test (revolving n size) ≡ s ∷ later) × (rank ≡ rankOf n s)
+      go [] e answer = let p = ap (λ (a : Lent). a .told) answer in let z : _≡_ {A = ℕ} 0 1 = cc in let w : ⊥ = omega (arith, z) in absurd w
+      go (t ∷ later) e answer =
+          let p = ap (λ (a : Lent). a .told) answer in
+          let long : length t ≡ length s = cc in
+          let place : rankOf n t ≡ rank = cc in
+          let same : t ≡ s = front t s long (ap (λ (a : Lent). a .held) answer) in
+          let r = first-joined test (visited n size jobs) jobs (f .job) t later (f .one) none e in (
+            r .0,
+            ap (keep test) (sym (jobs-joined n size jobs (divided .some))) ∙ r .1 ∙ ap {B = List (List ℕ)} (λ u. u ∷ r .0) same,
+            sym place ∙ ap (rankOf n) same,
+          )
+
+  pub jobs-either : AllClean table shares masks notion size jobs buffer
+      ⊎ ((s : List ℕ) × (rank : ℕ) × FirstFound table shares masks notion size jobs buffer s rank)
+  jobs-either = upTo-job jobs (le-refl jobs)
+    where
+      Found : Type 0
+      Found = (s : List ℕ) × (rank : ℕ) × FirstFound table shares masks notion size jobs buffer s rank
+
+      Clean : ℕ → Type 0
+      Clean j = (i : ℕ) → i < j → JobAnswers table shares masks notion size jobs i buffer (nothing buffer)
+
+      next : (j : ℕ) → j < jobs → Clean j → (l : List (List ℕ)) → of-job j ≡ l → Clean (suc j) ⊎ Found
+      next j h clean [] e = inl (λ i b. go i (eq-or-lt-of-le (le-of-suc-le-suc b)))
+        where
+          go : (i : ℕ) → (i ≡ j) ⊎ (i < j) → JobAnswers table shares masks notion size jobs i buffer (nothing buffer)
+          go i (inl same) =
+              subst (λ (k : ℕ). JobAnswers table shares masks notion size jobs k buffer (nothing buffer)) (sym same)
+              (job-answers j h (nothing buffer) (ap (λ (l : List (List ℕ)). firstRanked n l buffer) e))
+          go i (inr less) = clean i less
+      next j h clean (s ∷ later) e = inr (s, rankOf n s, record {
+        job = j;
+        one = h;
+        before = clean;
+        finds = job-answers j h (found s (rankOf n s) buffer) (ap (λ (l : List (List ℕ)). firstRanked n l buffer) e);
+      })
+
+      upTo-job : (j : ℕ) → j ≤ jobs → Clean j ⊎ Found
+      upTo-job zero h = inl (λ i b. absurd (not-suc-le-zero b))
+      upTo-job (suc j) h = go (upTo-job j (omega arith))
+        where
+          go : Clean j ⊎ Found → Clean (suc j) ⊎ Found
+          go (inl clean) = next j h clean (of-job j) refl
+          go (inr f) = inr f
+
+-- ---- with the verdict
+
+module _ (table : List ℕ) (shares masks notion order : ℕ) (buffer : List ℕ) (ordered : Ordered table shares masks notion order buffer)
+    (jobs : ℕ → ℕ) (divided : (size : ℕ) → Divided (jobs size)) where
+  abbrev tests : List ℕ → Bool
+  tests = isBreaking (notionOf notion) table shares masks
+
+  asked-size : (size : ℕ) → size ≤ order → Asked table shares masks notion size buffer
+  asked-size size h =
+      let most = accepted-exactly table shares masks .0 (ordered .sound) .high in
+      record { sound = ordered .sound; known = ordered .known; small = omega (arith, most, ordered .high); room = omega (arith, ordered .room) }
+
+  answered : verdictOf table shares masks notion order buffer ≡ firstShown (keep tests (searched (wireCount table) order)) buffer
+  answered =
+      let shows : verdict-answer table shares masks notion order buffer ≡ firstShown (keep tests (searched (wireCount table) order)) buffer =
+      simp (le-leb 1 order (ordered .low), lt-ltb order shares (ordered .high), le-ltb (length buffer) order (ordered .room)) in
+      opened-answer table shares masks notion (λ number. turnedDown number buffer) (verdict-answer table shares masks notion order buffer) (notionOf notion)
+      (record { sound = accepted table shares masks (ordered .sound); known = ordered .known; named = refl })
+      ∙ shows
+
+  -- every size from 1 up to, without, this one is clean
+  abbrev pub CleanBelow : ℕ → Type 0
+  CleanBelow size = (k : ℕ) → 1 ≤ k → k < size → AllClean table shares masks notion k (jobs k) buffer
+
+  below-none : (t : ℕ) → t ≤ order → CleanBelow (suc t) → keep tests (searched (wireCount table) t) ≡ []
+  below-none t h clean =
+      none-keep tests (searched (wireCount table) t)
+      (each-searched (wireCount table) (λ s. tests s ≡ false) t
+      (λ k b s e. jobs-clean table shares masks notion (suc k) (jobs (suc k)) buffer (asked-size (suc k) (omega arith)) (divided (suc k)) .0
+      (clean (suc k) (omega arith) (omega arith)) s e))
+
+  pub verdict-clean : (verdictOf table shares masks notion order buffer ≡ nothing buffer) ↔ CleanBelow (suc order)
+  verdict-clean = (there, λ clean. answered ∙ ap (λ (l : List (List ℕ)). firstShown l buffer) (below-none order (le-refl order) clean))
+    where
+      nil : (l : List (List ℕ)) → firstShown l buffer ≡ nothing buffer → l ≡ []
+      nil [] e = refl
+      nil (s ∷ later) e = let f = ap (λ (a : Lent). a .told) e in let z : _≡_ {A = ℕ} 0 1 = cc in let w : ⊥ = omega (arith, z) in absurd w
+
+      there : verdictOf table shares masks notion order buffer ≡ nothing buffer → CleanBelow (suc order)
+      there e zero low h = absurd (not-suc-le-zero low)
+      there e (suc k) low h =
+          jobs-clean table shares masks notion (suc k) (jobs (suc k)) buffer (asked-size (suc k) (omega arith)) (divided (suc k)) .1
+          (of-size (wireCount table) (λ s. tests s ≡ false) (suc k)
+          (each-size (wireCount table) (λ s. tests s ≡ false) order k (omega arith)
+          (keep-none tests (searched (wireCount table) order) (nil (keep tests (searched (wireCount table) order)) (sym answered ∙ e)))))
+
+  pub verdict-first : (size rank : ℕ) (set : List ℕ) → 1 ≤ size → size ≤ order → CleanBelow size
+      → FirstFound table shares masks notion size (jobs size) buffer set rank → verdictOf table shares masks notion order buffer ≡ broken set buffer
+  verdict-first zero rank set low high clean f = absurd (not-suc-le-zero low)
+  verdict-first (suc t) rank set low high clean f =
+      let first = jobs-first table shares masks notion (suc t) (jobs (suc t)) buffer (asked-size (suc t) high) (divided (suc t)) set rank f in
+      let r = first-of-size tests (wireCount table) t order set (first .0) (below-none t (omega arith) clean) high (first .1) in
+      answered ∙ ap (λ (l : List (List ℕ)). firstShown l buffer) (r .1)
