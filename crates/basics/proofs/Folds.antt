@@ -8,6 +8,7 @@
 --     fold-pick                            one number alone adds something
 --     fold-narrow                          numbers from n on add nothing
 --     keep-append                          what is kept of a list in two parts
+--     count-all                            a test that always passes counts the elements
 --     every-place                          what holds of every element holds at a place
 --     some-at, some-where, never, none-below, none-more, every-at, every-below     what holds of some number below n, of none, of every one
 use Prim.Native.Nat.{ℕ, zero, suc, _+_, _≤_, _<_, suc-le-suc, zero-le}
@@ -19,7 +20,7 @@ use mathlib.Core.List.{List, [], _∷_, _++_, map, map-append}
 use lib.ListN.{length, take, getD}
 use lib.Seq.{take-suc}
 use lib.Dec.{eqb, eqb·zero-suc, eqb·suc-zero, eqb·suc-suc}
-use Rattle.basics.specs.Folds.{fold, some, every, keep, upTo}
+use Rattle.basics.specs.Folds.{fold, some, every, count, keep, upTo}
 use Rattle.basics.proofs.Tests.{and-left, and-right, and-both, or-left, or-right}
 
 module _ {A B : Type 0} (op : B → B → B) (e : B) where
@@ -139,6 +140,10 @@ module _ {A : Type 0} where
           → cond b (x ∷ keep f (k ++ l)) (keep f (k ++ l)) ≡ cond b (x ∷ keep f k) (keep f k) ++ keep f l
       go true e = ap {B = List A} (λ m. x ∷ m) e
       go false e = e
+
+  pub count-all : (l : List A) → count (λ x. true) l ≡ length l
+  count-all [] = refl
+  count-all (x ∷ l) = let more : 1 + length l ≡ suc (length l) = omega arith in ap (λ (k : ℕ). 1 + k) (count-all l) ∙ more
 
   pub every-place : (f : A → Bool) (l : List A) (i : ℕ) (d : A) → every f l ≡ true → i < length l → f (getD l i d) ≡ true
   every-place f [] i d e h = absurd (not-suc-le-zero h)

@@ -2,13 +2,13 @@
 --     and-left, and-right, and-both            a conjunction and its parts
 --     or-left, or-right, or-cases, or-none     a disjunction and its parts
 --     bool-ext                                 two tests that pass together are equal
---     xor-false, false-xor, xor-comm, xor-assoc, xor-self, xor-same     bits added without carry
+--     xor-false, false-xor, xor-true, xor-comm, xor-assoc, xor-self, xor-same     bits added without carry
 --     xor-two                                  two sums added part by part
 --     and-xor, xor-and                         the product of a sum
 --     and-cond                                 a conjunction as a choice
 use mathlib.Core.Path.{_≡_, refl, sym, _∙_, ap}
 use mathlib.Core.Logic.{_⊎_, inl, inr}
-use mathlib.Core.Bool.{Bool, true, false, cond, _&&_, _||_, xor, true≢false, false≢true}
+use mathlib.Core.Bool.{Bool, true, false, cond, not, _&&_, _||_, xor, true≢false, false≢true}
 
 pub and-left : (a b : Bool) → (a && b) ≡ true → a ≡ true
 and-left true b e = refl
@@ -52,6 +52,11 @@ pub false-xor : (a : Bool) → xor false a ≡ a
 unfolding xor
 false-xor true = refl
 false-xor false = refl
+
+pub xor-true : (a : Bool) → xor a true ≡ not a
+unfolding xor
+xor-true true = refl
+xor-true false = refl
 
 pub xor-comm : (a b : Bool) → xor a b ≡ xor b a
 unfolding xor

@@ -1,6 +1,7 @@
 -- What the tests of a table give to the operations that come after them, and what the function check tells.
 --     Accepted                     a table, a number of shares and one of masks that pass the tests
 --     Sound, accepted-exactly      what the tests let through, in the scope's words
+--     values-refusal               an answer is no refusal
 --     records-decide               where the numbers and the length are right, the records decide
 --     accepted, tested-answer      where the tests pass, the operation's own answer stands
 --     tested-refusal               where they do not, their refusal stands
@@ -44,7 +45,7 @@ pub record Accepted (table : List ℕ) (shares masks : ℕ) : Type 0 where
   pub goodRecords : some (λ w. wrongRecord shares masks (recordAt table w)) (upTo (wireCount table)) ≡ false
 
 -- an answer is no refusal
-values-refusal : (l : List ℕ) (k : ℕ) → values l ≡ refusal k → ⊥
+pub values-refusal : (l : List ℕ) (k : ℕ) → values l ≡ refusal k → ⊥
 values-refusal l k e = let z : _≡_ {A = ℕ} 0 1 = cc in omega (arith, z)
 
 -- ---- the tests, then the answer

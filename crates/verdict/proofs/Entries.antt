@@ -4,12 +4,11 @@
 --     before, order-low, order-high, no-room, found-none, found-set     the verdict's answers
 --     size-within                           the size that was found is within the order
 --     range-before, size-large, range-room, ranks-low, ranks-high, range-clean, range-found     the range check's answers
-use Prim.Native.Nat.{ℕ, zero, suc, _-_, _%_, _≤_, _<_}
-use native.Mathlib.Nat.{div-mul-le-self}
+use Prim.Native.Nat.{ℕ, suc, _-_, _%_, _≤_, _<_}
 use native.Mathlib.Omega.{arith}
-use mathlib.Core.Path.{_≡_, refl, sym, _∙_, ap, ap₂, subst}
-use mathlib.Core.Bool.{Bool, true, false, cond, not, _&&_, and-false}
-use mathlib.Core.List.{List, [], _∷_, _++_, map}
+use mathlib.Core.Path.{_≡_, refl, sym, _∙_, ap, ap₂}
+use mathlib.Core.Bool.{Bool, true, cond, not, _&&_, and-false}
+use mathlib.Core.List.{List, [], _∷_, map}
 use borrow.Author.Tests.{le-leb, lt-leb, le-ltb, lt-ltb, ltb-false}
 use lib.Dec.{ltb, leb, eqb}
 use lib.ListN.{length, take, drop}
@@ -19,21 +18,21 @@ use Rattle.basics.specs.Told.{Lent, values, refusal, turnedDown}
 use Rattle.basics.proofs.Tests.{or-none}
 use Rattle.wires.specs.declared.Notion.{Notion}
 use Rattle.wires.specs.Wires.{breaks}
-use Rattle.records.specs.Layout.{wireAt, wireCount, inside}
-use Rattle.table.proofs.Entries.{Accepted, Sound, accepted-exactly, shares-high, set-decided}
+use Rattle.records.specs.Layout.{wireAt, wireCount}
+use Rattle.table.proofs.Entries.{shares-high, set-decided}
 use Rattle.counts.specs.Counts.{binom}
-use Rattle.sets.specs.Order.{revolving, setAt, rankOf, isSet}
+use Rattle.sets.specs.Order.{revolving, setAt, isSet}
 use Rattle.sets.proofs.Rising.{isSet-parts}
 use Rattle.sets.proofs.Revolving.{revolving-length, set-at-is-set, rank-of-set}
 use Rattle.verdict.specs.declared.Refusal.{Refusal}
-use Rattle.verdict.specs.declared.Refusal.the-variants.{OrderOutOfRange, BufferTooShort, SizeTooLarge, RanksOutOfRange}
+use Rattle.verdict.specs.declared.Refusal.the-variants.{OrderOutOfRange, BufferTooShort}
 use Rattle.verdict.specs.declared.Opened.{Opened}
 use Rattle.verdict.specs.declared.VerdictAnswer.{VerdictAnswer}
 use Rattle.verdict.specs.declared.RangeAnswer.{RangeAnswer}
 use Rattle.verdict.specs.Search.{searched, stretch, isBreaking, first, FirstSet, FirstRank}
 use Rattle.verdict.specs.Answers.{refusalNumber, verdictTold, rangeTold, wrongOrder, notionOf, openedTold, opens, written, firstShown, verdictOf, firstRanked, rangeCheck}
-use Rattle.verdict.specs.Guarantee.{Watched, Guarantee}
-use Rattle.verdict.proofs.Keeping.{Each, each-place, each-take, each-drop, each-map, keep-same, keep-first}
+use Rattle.verdict.specs.Guarantee.{Guarantee}
+use Rattle.verdict.proofs.Keeping.{each-place, each-take, each-drop, keep-same}
 use Rattle.verdict.proofs.Turns.{set-inside, rank-first}
 use Rattle.verdict.proofs.Admitting.{Opens, opens-notion, opened-answer, opened-refusal}
 use Rattle.verdict.proofs.Watching.{each-searched, shown-none, holds, broken, refused}
@@ -101,9 +100,11 @@ module _ (table : List ℕ) (shares masks notion order : ℕ) (buffer : List ℕ
 
   module _ (kind : Notion) (told : openedTold (Opened.For kind) ≡ opens table shares masks notion) where
     own-answer : verdictOf table shares masks notion order buffer ≡ verdict-answer
-    own-answer = opened-answer table shares masks notion (λ number. turnedDown number buffer) verdict-answer kind (opened-for table shares masks notion kind told)
+    own-answer = opened-answer table shares masks notion (λ number. turnedDown number buffer) verdict-answer kind
+        (opened-for table shares masks notion kind told)
 
-    turned : (why : Refusal) → turnedDown (refusalNumber why) buffer ≡ verdict-answer → Promise (VerdictAnswer.Refused why) buffer table shares masks notion order buffer
+    turned : (why : Refusal) → turnedDown (refusalNumber why) buffer ≡ verdict-answer
+        → Promise (VerdictAnswer.Refused why) buffer table shares masks notion order buffer
     turned why e = record { equation = e ∙ sym own-answer; guarantee = refused table shares masks notion order why buffer }
 
     pub order-low : order < 1 → Promise (VerdictAnswer.Refused OrderOutOfRange) buffer table shares masks notion order buffer
@@ -163,7 +164,8 @@ module _ (table : List ℕ) (shares masks notion order : ℕ) (buffer : List ℕ
                 wrote ∙ ap (λ (l : List ℕ). written l buffer) (ap (λ (i : ℕ). take i probes) all ∙ q) in record {
                   equation = ap₂ (λ (k : ℕ) (l : List ℕ). record { told = values (k ∷ []); held = l }) p copied
                       ∙ ap (λ (l : List (List ℕ)). firstShown l buffer) (sym e) ∙ shows ∙ sym own-answer;
-                  guarantee = broken table shares masks notion order size held s later e p (ap₂ {C = List ℕ} take p copied ∙ take-at s (drop (length s) buffer) (length s) refl);
+                  guarantee = broken table shares masks notion order size held s later e p
+                      (ap₂ {C = List ℕ} take p copied ∙ take-at s (drop (length s) buffer) (length s) refl);
                 }
 
 -- ---- the range check
@@ -188,7 +190,8 @@ module _ (table : List ℕ) (shares masks notion size from to : ℕ) (buffer : L
 
   module _ (kind : Notion) (told : openedTold (Opened.For kind) ≡ opens table shares masks notion) where
     own-range : range-answer ≡ asked
-    own-range = sym (opened-answer table shares masks notion (λ number. turnedDown number buffer) range-answer kind (opened-for table shares masks notion kind told))
+    own-range = sym (opened-answer table shares masks notion (λ number. turnedDown number buffer) range-answer kind
+        (opened-for table shares masks notion kind told))
 
     pub size-large : 7 < size → turnedDown 17 buffer ≡ asked
     size-large h = let e : turnedDown 17 buffer ≡ range-answer = simp (lt-ltb 7 size h) in e ∙ own-range
@@ -200,7 +203,8 @@ module _ (table : List ℕ) (shares masks notion size from to : ℕ) (buffer : L
       module _ (room : size ≤ length buffer) where
         pub ranks-low : to < from → turnedDown 18 buffer ≡ asked
         ranks-low h =
-            let e : turnedDown 18 buffer ≡ range-answer = simp (le-ltb 7 size small, le-ltb (length buffer) size room, lt-leb from to h) in e ∙ own-range
+            let e : turnedDown 18 buffer ≡ range-answer = simp (le-ltb 7 size small, le-ltb (length buffer) size room, lt-leb from to h) in e
+            ∙ own-range
 
         pub ranks-high : from ≤ to → all < to → turnedDown 18 buffer ≡ asked
         ranks-high rises h =
@@ -225,9 +229,11 @@ module _ (table : List ℕ) (shares masks notion size from to : ℕ) (buffer : L
           pub range-clean : to ≤ rank → rangeTold RangeAnswer.Clean buffer ≡ asked
           range-clean h =
               let last : to ≡ rank = omega (arith, search .high) in
-              decides [] (sym same-sets ∙ ap (λ (k : ℕ). keep (isBreaking kind table 8 64) (stretch (wireCount table) size from k)) last ∙ search .clean)
+              decides [] (sym same-sets ∙ ap (λ (k : ℕ). keep (isBreaking kind table 8 64) (stretch (wireCount table) size from k)) last
+              ∙ search .clean)
 
-          pub range-found : rank < to → (held : List ℕ) → held ≡ written (take (size - 0) probes) buffer → rangeTold (RangeAnswer.Found size rank) held ≡ asked
+          pub range-found : rank < to → (held : List ℕ) → held ≡ written (take (size - 0) probes) buffer
+              → rangeTold (RangeAnswer.Found size rank) held ≡ asked
           range-found h held wrote =
               let n = wireCount table in
               let set = setAt n size rank in

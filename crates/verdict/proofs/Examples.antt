@@ -1,4 +1,5 @@
--- Examples, proved by running the definitions: the scope's texts A, B and C, a break that takes two wires, and the refusals on both sides of their limits.
+-- Examples, proved by running the definitions: the scope's texts A, B and C, a break that takes two wires, and the refusals on both sides
+-- of their limits.
 --     pair     a table in which no wire breaks by itself, and wires 1 and 2 together do
 use Prim.Native.Nat.{ℕ}
 use mathlib.Core.Path.{_≡_, refl}

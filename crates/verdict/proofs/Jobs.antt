@@ -9,17 +9,13 @@ use native.Mathlib.Nat.{eq-or-lt-of-le, le-of-suc-le-suc, not-suc-le-zero, le-re
 use native.Mathlib.Omega.{arith}
 use mathlib.Core.Path.{_≡_, refl, sym, _∙_, ap, ap₂, subst}
 use mathlib.Core.Logic.{_⊎_, inl, inr, _↔_}
-use mathlib.Core.Bool.{Bool, true, false, _&&_}
+use mathlib.Core.Bool.{Bool, true, false}
 use mathlib.Core.List.{List, [], _∷_, _++_}
-use borrow.Author.Tests.{le-leb, lt-leb, le-ltb, lt-ltb}
-use lib.Dec.{ltb, leb}
-use lib.ListN.{length, take, drop}
-use lib.Seq.{take-append-seam}
 use Rattle.basics.specs.Folds.{keep}
-use Rattle.basics.specs.Told.{Lent, values, turnedDown}
+use Rattle.basics.specs.Told.{Lent, values}
 use Rattle.basics.proofs.Folds.{keep-append}
 use Rattle.records.specs.Layout.{wireCount}
-use Rattle.table.proofs.Entries.{accepted, accepted-exactly, shares-low}
+use Rattle.table.proofs.Entries.{accepted-exactly}
 use Rattle.counts.specs.Counts.{binom}
 use Rattle.sets.specs.Order.{revolving, setAt, rankOf, isSet}
 use Rattle.sets.specs.Answers.{jobRanks}
@@ -28,11 +24,10 @@ use Rattle.sets.specs.Division.{start, visited, joined}
 use Rattle.sets.proofs.Division.{start-rises, start-within, jobs-joined}
 use Rattle.sets.proofs.Entries.{job-told}
 use Rattle.verdict.specs.Search.{searched, isBreaking}
-use Rattle.verdict.specs.Answers.{notionOf, firstShown, written, firstRanked, verdictOf, rangeCheck}
+use Rattle.verdict.specs.Answers.{notionOf, firstShown, firstRanked, verdictOf, rangeCheck}
 use Rattle.verdict.specs.Jobs.{nothing, found, broken, Ordered, Asked, Divided, JobAnswers, AllClean, FirstFound}
-use Rattle.verdict.proofs.Keeping.{Each, each-place, keep-none, none-keep}
-use Rattle.verdict.proofs.Admitting.{Opens, opened-answer}
-use Rattle.verdict.proofs.Entries.{range-answer, verdict-answer}
+use Rattle.verdict.proofs.Keeping.{each-place, keep-none, none-keep}
+use Rattle.verdict.proofs.Accepting.{verdict-answered, range-answered, shown-nil, ranked-nil, ranked-set}
 use Rattle.verdict.proofs.Turns.{first-of-size}
 use Rattle.verdict.proofs.Watching.{of-size, each-size, each-searched}
 
@@ -68,20 +63,19 @@ module _ (test : List ℕ → Bool) (g : ℕ → List (List ℕ)) where
   first-joined (suc j) i s later h none e = go (eq-or-lt-of-le (le-of-suc-le-suc h)) (first-joined j i s later)
     where
       go : (i ≡ j) ⊎ (i < j)
-          → (i < j → ((k : ℕ) → k < i → keep test (g k) ≡ []) → keep test (g i) ≡ s ∷ later → (rest : List (List ℕ)) × (keep test (joined j g) ≡ s ∷ rest))
+          → (i < j → ((k : ℕ) → k < i → keep test (g k) ≡ []) → keep test (g i) ≡ s ∷ later → (rest : List (List ℕ))
+          × (keep test (joined j g) ≡ s ∷ rest))
           → (rest : List (List ℕ)) × (keep test (joined (suc j) g) ≡ s ∷ rest)
-      go (inl same) ih =
-          (later, parts j ∙ ap₂ {C = List (List ℕ)} _++_ (none-joined j (λ k b. none k (omega arith))) (ap (λ (k : ℕ). keep test (g k)) (sym same) ∙ e))
+      go (inl same) ih = (
+        later,
+        parts j ∙ ap₂ {C = List (List ℕ)} _++_ (none-joined j (λ k b. none k (omega arith)))
+            (ap (λ (k : ℕ). keep test (g k)) (sym same) ∙ e),
+      )
       go (inr less) ih =
           let r = ih less none e in
           (r .0 ++ keep test (g j), parts j ∙ ap {B = List (List ℕ)} (λ l. l ++ keep test (g j)) (r .1))
 
 -- ---- the answers of the jobs
-
-nothing-nil : (n : ℕ) (l : List (List ℕ)) (buffer : List ℕ) → firstRanked n l buffer ≡ nothing buffer → l ≡ []
-nothing-nil n [] buffer e = refl
-nothing-nil n (s ∷ later) buffer e =
-    let f = ap (λ (a : Lent). a .told) e in let z : _≡_ {A = ℕ} 0 1 = cc in let w : ⊥ = omega (arith, z) in absurd w
 
 module _ (table : List ℕ) (shares masks notion size jobs : ℕ) (buffer : List ℕ) (asked : Asked table shares masks notion size buffer)
     (divided : Divided jobs) where
@@ -100,27 +94,21 @@ module _ (table : List ℕ) (shares masks notion size jobs : ℕ) (buffer : List
   abbrev bound : ℕ → ℕ
   bound i = start (binom n size) jobs i
 
-  admitted : Opens table shares masks notion (notionOf notion)
-  admitted = record { sound = accepted table shares masks (asked .sound); known = asked .known; named = refl }
-
   -- what a job's range check answers
   checked : (i : ℕ) → i < jobs → rangeCheck table shares masks notion size (bound i) (bound (suc i)) buffer ≡ firstRanked n (of-job i) buffer
   checked i h =
-      let rises = start-rises (binom n size) jobs i (divided .some) in
-      let ends = start-within (binom n size) jobs (suc i) (divided .some) h in
-      let answer : range-answer table shares masks notion size (bound i) (bound (suc i)) buffer ≡ firstRanked n (of-job i) buffer =
-      simp (le-ltb 7 size (asked .small), le-ltb (length buffer) size (asked .room), le-leb (bound i) (bound (suc i)) rises, le-leb (bound (suc i)) (binom n size) ends) in
-      opened-answer table shares masks notion (λ number. turnedDown number buffer)
-      (range-answer table shares masks notion size (bound i) (bound (suc i)) buffer) (notionOf notion) admitted
-      ∙ answer
+      range-answered table shares masks notion size (bound i) (bound (suc i)) buffer asked (start-rises (binom n size) jobs i (divided .some))
+      (start-within (binom n size) jobs (suc i) (divided .some) h)
 
   told : (i : ℕ) → i < jobs → jobRanks n size i jobs ≡ values (bound i ∷ bound (suc i) ∷ [])
   told = job-told n size jobs wires (asked .small) (divided .some) (divided .few)
 
-  job-answers : (i : ℕ) → i < jobs → (answer : Lent) → firstRanked n (of-job i) buffer ≡ answer → JobAnswers table shares masks notion size jobs i buffer answer
+  job-answers : (i : ℕ) → i < jobs → (answer : Lent) → firstRanked n (of-job i) buffer ≡ answer
+      → JobAnswers table shares masks notion size jobs i buffer answer
   job-answers i h answer e = record { from = bound i; to = bound (suc i); told = told i h; answers = checked i h ∙ e }
 
-  answers-job : (i : ℕ) → i < jobs → (answer : Lent) → JobAnswers table shares masks notion size jobs i buffer answer → firstRanked n (of-job i) buffer ≡ answer
+  answers-job : (i : ℕ) → i < jobs → (answer : Lent) → JobAnswers table shares masks notion size jobs i buffer answer
+      → firstRanked n (of-job i) buffer ≡ answer
   answers-job i h answer j =
       let p = j .told in
       let q = told i h in
@@ -131,7 +119,7 @@ module _ (table : List ℕ) (shares masks notion size jobs : ℕ) (buffer : List
   clean-none : AllClean table shares masks notion size jobs buffer → keep test (revolving n size) ≡ []
   clean-none clean =
       ap (keep test) (sym (jobs-joined n size jobs (divided .some)))
-      ∙ none-joined test (visited n size jobs) jobs (λ i h. nothing-nil n (of-job i) buffer (answers-job i h (nothing buffer) (clean i h)))
+      ∙ none-joined test (visited n size jobs) jobs (λ i h. ranked-nil buffer n (of-job i) (answers-job i h (nothing buffer) (clean i h)))
 
   none-clean : keep test (revolving n size) ≡ [] → AllClean table shares masks notion size jobs buffer
   none-clean none i h =
@@ -150,31 +138,14 @@ module _ (table : List ℕ) (shares masks notion size jobs : ℕ) (buffer : List
 
   pub jobs-first : (s : List ℕ) (rank : ℕ) → FirstFound table shares masks notion size jobs buffer s rank
       → (later : List (List ℕ)) × (keep test (revolving n size) ≡ s ∷ later) × (rank ≡ rankOf n s)
-  jobs-first s rank f = go (of-job (f .job)) refl (answers-job (f .job) (f .one) (found s rank buffer) (f .finds))
+  jobs-first s rank f =
+      let i = f .job in
+      let shown = ranked-set buffer n (of-job i) s rank (answers-job i (f .one) (found s rank buffer) (f .finds)) in
+      let r = first-joined test (visited n size jobs) jobs i s (shown .0) (f .one) none (shown .1) in
+      (r .0, ap (keep test) (sym (jobs-joined n size jobs (divided .some))) ∙ r .1, shown .2)
     where
-      -- equal lists after which equal ones stand
-      front : (p q : List ℕ) → length p ≡ length q → written p buffer ≡ written q buffer → p ≡ q
-      front p q long e =
-          sym (take-append-seam p (drop (length p) buffer)) ∙ ap₂ {C = List ℕ} take long e ∙ take-append-seam q (drop (length q) buffer)
-
       none : (k : ℕ) → k < f .job → keep test (visited n size jobs k) ≡ []
-      none k h =
-          nothing-nil n (of-job k) buffer
-          (answers-job k (omega (arith, f .one)) (nothing buffer) (f .before k h))
-
-      go : (l : List (List ℕ)) → of-job (f .job) ≡ l → firstRanked n l buffer ≡ found s rank buffer
-          → (later : List (List ℕ)) × (keep test (revolving n size) ≡ s ∷ later) × (rank ≡ rankOf n s)
-      go [] e answer = let p = ap (λ (a : Lent). a .told) answer in let z : _≡_ {A = ℕ} 0 1 = cc in let w : ⊥ = omega (arith, z) in absurd w
-      go (t ∷ later) e answer =
-          let p = ap (λ (a : Lent). a .told) answer in
-          let long : length t ≡ length s = cc in
-          let place : rankOf n t ≡ rank = cc in
-          let same : t ≡ s = front t s long (ap (λ (a : Lent). a .held) answer) in
-          let r = first-joined test (visited n size jobs) jobs (f .job) t later (f .one) none e in (
-            r .0,
-            ap (keep test) (sym (jobs-joined n size jobs (divided .some))) ∙ r .1 ∙ ap {B = List (List ℕ)} (λ u. u ∷ r .0) same,
-            sym place ∙ ap (rankOf n) same,
-          )
+      none k h = ranked-nil buffer n (of-job k) (answers-job k (omega (arith, f .one)) (nothing buffer) (f .before k h))
 
   pub jobs-either : AllClean table shares masks notion size jobs buffer
       ⊎ ((s : List ℕ) × (rank : ℕ) × FirstFound table shares masks notion size jobs buffer s rank)
@@ -194,12 +165,16 @@ module _ (table : List ℕ) (shares masks notion size jobs : ℕ) (buffer : List
               subst (λ (k : ℕ). JobAnswers table shares masks notion size jobs k buffer (nothing buffer)) (sym same)
               (job-answers j h (nothing buffer) (ap (λ (l : List (List ℕ)). firstRanked n l buffer) e))
           go i (inr less) = clean i less
-      next j h clean (s ∷ later) e = inr (s, rankOf n s, record {
-        job = j;
-        one = h;
-        before = clean;
-        finds = job-answers j h (found s (rankOf n s) buffer) (ap (λ (l : List (List ℕ)). firstRanked n l buffer) e);
-      })
+      next j h clean (s ∷ later) e = inr (
+        s,
+        rankOf n s,
+        record {
+          job = j;
+          one = h;
+          before = clean;
+          finds = job-answers j h (found s (rankOf n s) buffer) (ap (λ (l : List (List ℕ)). firstRanked n l buffer) e);
+        },
+      )
 
       upTo-job : (j : ℕ) → j ≤ jobs → Clean j ⊎ Found
       upTo-job zero h = inl (λ i b. absurd (not-suc-le-zero b))
@@ -222,12 +197,7 @@ module _ (table : List ℕ) (shares masks notion order : ℕ) (buffer : List ℕ
       record { sound = ordered .sound; known = ordered .known; small = omega (arith, most, ordered .high); room = omega (arith, ordered .room) }
 
   answered : verdictOf table shares masks notion order buffer ≡ firstShown (keep tests (searched (wireCount table) order)) buffer
-  answered =
-      let shows : verdict-answer table shares masks notion order buffer ≡ firstShown (keep tests (searched (wireCount table) order)) buffer =
-      simp (le-leb 1 order (ordered .low), lt-ltb order shares (ordered .high), le-ltb (length buffer) order (ordered .room)) in
-      opened-answer table shares masks notion (λ number. turnedDown number buffer) (verdict-answer table shares masks notion order buffer) (notionOf notion)
-      (record { sound = accepted table shares masks (ordered .sound); known = ordered .known; named = refl })
-      ∙ shows
+  answered = verdict-answered table shares masks notion order buffer ordered
 
   -- every size from 1 up to, without, this one is clean
   abbrev pub CleanBelow : ℕ → Type 0
@@ -243,17 +213,13 @@ module _ (table : List ℕ) (shares masks notion order : ℕ) (buffer : List ℕ
   pub verdict-clean : (verdictOf table shares masks notion order buffer ≡ nothing buffer) ↔ CleanBelow (suc order)
   verdict-clean = (there, λ clean. answered ∙ ap (λ (l : List (List ℕ)). firstShown l buffer) (below-none order (le-refl order) clean))
     where
-      nil : (l : List (List ℕ)) → firstShown l buffer ≡ nothing buffer → l ≡ []
-      nil [] e = refl
-      nil (s ∷ later) e = let f = ap (λ (a : Lent). a .told) e in let z : _≡_ {A = ℕ} 0 1 = cc in let w : ⊥ = omega (arith, z) in absurd w
-
       there : verdictOf table shares masks notion order buffer ≡ nothing buffer → CleanBelow (suc order)
       there e zero low h = absurd (not-suc-le-zero low)
       there e (suc k) low h =
           jobs-clean table shares masks notion (suc k) (jobs (suc k)) buffer (asked-size (suc k) (omega arith)) (divided (suc k)) .1
           (of-size (wireCount table) (λ s. tests s ≡ false) (suc k)
           (each-size (wireCount table) (λ s. tests s ≡ false) order k (omega arith)
-          (keep-none tests (searched (wireCount table) order) (nil (keep tests (searched (wireCount table) order)) (sym answered ∙ e)))))
+          (keep-none tests (searched (wireCount table) order) (shown-nil buffer (keep tests (searched (wireCount table) order)) (sym answered ∙ e)))))
 
   pub verdict-first : (size rank : ℕ) (set : List ℕ) → 1 ≤ size → size ≤ order → CleanBelow size
       → FirstFound table shares masks notion size (jobs size) buffer set rank → verdictOf table shares masks notion order buffer ≡ broken set buffer

@@ -8,6 +8,8 @@
 --     each-map                      something that follows
 --     keep-same          tests that say the same of every element keep the same ones
 --     keep-first         the first that is kept passes, and what holds of every element holds of it
+--     keep-place         it stands at a place, and the test fails at every place before
+--     take-none          the first 0 elements
 --     keep-none, none-keep     none is kept exactly when the test fails on every element
 use Prim.Native.Nat.{ℕ, zero, suc, _+_, _<_, suc-le-suc}
 use native.Mathlib.Nat.{not-suc-le-zero, le-of-suc-le-suc, zero-lt-suc}
@@ -72,6 +74,27 @@ each-map P Q g [] a = tt
 each-map P Q g (x ∷ l) a = (g x (a .0), each-map P Q g l (a .1))
 
 module _ {A : Type 0} where
+  pub take-none : (l : List A) → take 0 l ≡ []
+  take-none [] = refl
+  take-none (x ∷ l) = refl
+
+  pub keep-place : (f : A → Bool) (l : List A) (x d : A) (later : List A) → keep f l ≡ x ∷ later
+      → (i : ℕ) × (i < length l) × (getD l i d ≡ x) × (f x ≡ true) × ((j : ℕ) → j < i → f (getD l j d) ≡ false)
+  keep-place f [] x d later e = let z : _≡_ {A = ℕ} 0 1 = cc in let w : ⊥ = omega (arith, z) in absurd w
+  keep-place f (y ∷ l) x d later e = go (f y) refl e (keep-place f l x d later)
+    where
+      Stands : List A → Type 0
+      Stands l = (i : ℕ) × (i < length l) × (getD l i d ≡ x) × (f x ≡ true) × ((j : ℕ) → j < i → f (getD l j d) ≡ false)
+
+      go : (b : Bool) → f y ≡ b → cond b (y ∷ keep f l) (keep f l) ≡ x ∷ later → (keep f l ≡ x ∷ later → Stands l) → Stands (y ∷ l)
+      go true p q ih =
+          let same : y ≡ x = cc in (0, zero-lt-suc (length l), same, ap f (sym same) ∙ p, λ j h. absurd (not-suc-le-zero h))
+      go false p q ih = let r = ih q in (suc (r .0), suc-le-suc (r .1), r .2, r .3, before (r .4))
+        where
+          before : {i : ℕ} → ((j : ℕ) → j < i → f (getD l j d) ≡ false) → (j : ℕ) → j < suc i → f (getD (y ∷ l) j d) ≡ false
+          before h zero b = p
+          before h (suc j) b = h j (le-of-suc-le-suc b)
+
   pub keep-same : (f g : A → Bool) (l : List A) → Each (λ x. f x ≡ g x) l → keep f l ≡ keep g l
   keep-same f g [] e = refl
   keep-same f g (x ∷ l) e = ap₂ {C = List A} (λ b m. cond b (x ∷ m) m) (e .0) (keep-same f g l (e .1))
@@ -95,7 +118,8 @@ module _ {A : Type 0} where
   keep-none f [] e = tt
   keep-none f (x ∷ l) e = go (f x) refl e (keep-none f l)
     where
-      go : (b : Bool) → f x ≡ b → cond b (x ∷ keep f l) (keep f l) ≡ [] → (keep f l ≡ [] → Each (λ x. f x ≡ false) l) → (f x ≡ false) × Each (λ x. f x ≡ false) l
+      go : (b : Bool) → f x ≡ b → cond b (x ∷ keep f l) (keep f l) ≡ [] → (keep f l ≡ [] → Each (λ x. f x ≡ false) l) → (f x ≡ false)
+          × Each (λ x. f x ≡ false) l
       go true p q ih = absurd (cons-nil q)
         where
           cons-nil : _≡_ {A = List A} (x ∷ keep f l) [] → ⊥

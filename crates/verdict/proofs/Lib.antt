@@ -4,5 +4,7 @@ pub mod Admitting
 pub mod Writing
 pub mod Watching
 pub mod Entries
+pub mod Accepting
+pub mod First
 pub mod Jobs
 pub mod Examples

@@ -6,14 +6,14 @@
 --     none-found, set-found        the search's result, where nothing was found and where a set was
 --     rank-next, rank-found, rank-none     the same for the ranks of a range
 use Prim.Native.Nat.{ℕ, zero, suc, _+_, _-_, _≤_, _<_}
-use native.Mathlib.Nat.{zero-add, le-of-suc-le-suc, eq-or-lt-of-le, not-suc-le-zero}
+use native.Mathlib.Nat.{le-of-suc-le-suc, eq-or-lt-of-le, not-suc-le-zero}
 use native.Mathlib.Omega.{arith}
-use mathlib.Core.Path.{_≡_, refl, sym, _∙_, ap, ap₂, subst}
+use mathlib.Core.Path.{_≡_, refl, sym, _∙_, ap, ap₂}
 use mathlib.Core.Logic.{_⊎_, inl, inr}
 use mathlib.Core.Bool.{Bool, true, false, _&&_}
 use mathlib.Core.List.{List, [], _∷_, _++_, map, append-assoc, append-nil}
 use lib.Dec.{ltb, eqb}
-use lib.ListN.{length, getD, take, drop, length-drop, length-take}
+use lib.ListN.{length, getD, take, drop, length-drop}
 use lib.Seq.{take-at, take-all, take-take, getD-take, getD-drop, length-take-le}
 use Rattle.basics.specs.Folds.{keep, every}
 use Rattle.basics.proofs.Tests.{and-right}
@@ -26,7 +26,7 @@ use Rattle.sets.specs.Order.{revolving, setAt, rising, below, isSet}
 use Rattle.sets.proofs.Rising.{isSet-parts}
 use Rattle.sets.proofs.Revolving.{revolving-length, set-at-is-set}
 use Rattle.verdict.specs.Search.{searched, stretch, isBreaking, first, FirstSet, FirstRank}
-use Rattle.verdict.proofs.Keeping.{keep-none-more, keep-found}
+use Rattle.verdict.proofs.Keeping.{take-none, keep-none-more, keep-found}
 
 -- ---- one set
 
@@ -48,14 +48,16 @@ module _ (table : List ℕ) (n k rank : ℕ) (held old : List ℕ) (wires : n �
   front : take (k - 0) held ≡ setAt n k rank
   front =
       let same : k - 0 ≡ k = omega arith in
-      ap₂ {C = List ℕ} (λ i l. take i l) same unranked ∙ take-at (setAt n k rank) (drop k old) k (isSet-parts n k (setAt n k rank) (set-at-is-set n k rank h) .0)
+      ap₂ {C = List ℕ} (λ i l. take i l) same unranked ∙ take-at (setAt n k rank) (drop k old) k
+      (isSet-parts n k (setAt n k rank) (set-at-is-set n k rank h) .0)
 
   pub looked-inside : inside table (take (k - 0) held) ≡ true
   looked-inside =
       set-inside table k (take (k - 0) held)
       (ap₂ (λ (m : ℕ) (l : List ℕ). isSet m k l) (sym wires) front ∙ set-at-is-set n k rank h)
 
-  pub looked : (notion : Notion) (r : Bool) → r ≡ breaks notion 8 64 (map (wireAt table) (take (k - 0) held)) → r ≡ isBreaking notion table 8 64 (setAt n k rank)
+  pub looked : (notion : Notion) (r : Bool) → r ≡ breaks notion 8 64 (map (wireAt table) (take (k - 0) held)) → r
+      ≡ isBreaking notion table 8 64 (setAt n k rank)
   unfolding isBreaking
   looked notion r e = e ∙ ap (λ (l : List ℕ). breaks notion 8 64 (map (wireAt table) l)) front
 
@@ -85,11 +87,7 @@ module _ (test : List ℕ → Bool) (n : ℕ) where
 
   pub no-rank : (size : ℕ) → RanksClean size 0
   unfolding RanksClean
-  no-rank size = ap (keep test) (nothing (revolving n size))
-    where
-      nothing : {A : Type 0} (l : List A) → take 0 l ≡ []
-      nothing [] = refl
-      nothing (x ∷ l) = refl
+  no-rank size = ap (keep test) (take-none (revolving n size))
 
   pub next-rank : (size rank : ℕ) → rank < binom n size → RanksClean size rank → test (setAt n size rank) ≡ false → RanksClean size (rank + 1)
   unfolding RanksClean
@@ -109,7 +107,8 @@ module _ (test : List ℕ → Bool) (n : ℕ) where
       whole : keep test (revolving n size) ≡ []
       whole = ap (keep test) (sym (take-all rank (revolving n size) (omega (arith, revolving-length n size)))) ∙ ranks
 
-      go : (size : ℕ) → ((t : ℕ) → suc t ≡ size → keep test (searched n t) ≡ []) → keep test (revolving n size) ≡ [] → keep test (searched n size) ≡ []
+      go : (size : ℕ) → ((t : ℕ) → suc t ≡ size → keep test (searched n t) ≡ []) → keep test (revolving n size) ≡ [] → keep test (searched n size)
+          ≡ []
       go zero sizes whole = refl
       go (suc t) sizes whole = size-clean t (sizes t refl) ∙ whole
 
@@ -120,12 +119,8 @@ module _ (test : List ℕ → Bool) (n : ℕ) where
       let none : keep test (searched n order) ≡ [] = clean order (omega arith) in
       record {
         size-is = nil ∙ ap (λ (l : List (List ℕ)). length (first l)) (sym none);
-        set-is = ap (λ (i : ℕ). take i held) nil ∙ nothing held ∙ ap first (sym none);
+        set-is = ap (λ (i : ℕ). take i held) nil ∙ take-none held ∙ ap first (sym none);
       }
-    where
-      nothing : (l : List ℕ) → take 0 l ≡ []
-      nothing [] = refl
-      nothing (x ∷ l) = refl
 
   -- the sets of larger sizes come after
   searched-more : (size order : ℕ) → size ≤ order → (more : List (List ℕ)) × (searched n order ≡ searched n size ++ more)
@@ -187,11 +182,7 @@ module _ (test : List ℕ → Bool) (n k from : ℕ) where
   unfolding RangeClean
   rank-start =
       let none : from - from ≡ 0 = omega arith in
-      ap (λ (i : ℕ). keep test (take i (drop from (revolving n k)))) none ∙ ap (keep test) (nothing (drop from (revolving n k)))
-    where
-      nothing : {A : Type 0} (l : List A) → take 0 l ≡ []
-      nothing [] = refl
-      nothing (x ∷ l) = refl
+      ap (λ (i : ℕ). keep test (take i (drop from (revolving n k)))) none ∙ ap (keep test) (take-none (drop from (revolving n k)))
 
   pub rank-next : (rank : ℕ) → from ≤ rank → rank < binom n k → RangeClean rank → test (setAt n k rank) ≡ false → RangeClean (rank + 1)
   unfolding RangeClean
@@ -206,7 +197,8 @@ module _ (test : List ℕ → Bool) (n k from : ℕ) where
       let part = drop from (revolving n k) in
       let i = rank - from in
       let less : i < to - from = omega arith in
-      let short : length (stretch n k from to) ≡ to - from = length-take-le (to - from) part (omega (arith, length-drop from (revolving n k), revolving-length n k)) in
+      let short : length (stretch n k from to) ≡ to - from = length-take-le (to - from) part
+      (omega (arith, length-drop from (revolving n k), revolving-length n k)) in
       let here : getD (stretch n k from to) i [] ≡ setAt n k rank = getD-take (to - from) part i [] less ∙ placed rank low in
       let rest = keep test (drop (suc i) (stretch n k from to)) in (
         rest,

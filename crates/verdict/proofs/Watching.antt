@@ -11,9 +11,8 @@ use native.Mathlib.Nat.{le-refl, le-of-suc-le-suc, eq-or-lt-of-le, not-suc-le-ze
 use native.Mathlib.Omega.{arith}
 use mathlib.Core.Path.{_≡_, refl, sym, _∙_, ap, subst}
 use mathlib.Core.Logic.{_⊎_, inl, inr}
-use mathlib.Core.Bool.{Bool, true, false, cond, _&&_, true≢false}
-use mathlib.Core.List.{List, [], _∷_, _++_, map}
-use lib.Dec.{eqb}
+use mathlib.Core.Bool.{Bool, true, false, cond, true≢false}
+use mathlib.Core.List.{List, [], _∷_, map}
 use lib.ListN.{length, take}
 use Rattle.basics.specs.Folds.{keep}
 use Rattle.basics.proofs.Tests.{and-left, and-right, and-both}
@@ -31,7 +30,7 @@ use Rattle.verdict.specs.declared.VerdictAnswer.{VerdictAnswer}
 use Rattle.verdict.specs.Search.{searched, isBreaking}
 use Rattle.verdict.specs.Answers.{notionOf}
 use Rattle.verdict.specs.Guarantee.{Watched, HasChoice, Shown, Guarantee}
-use Rattle.verdict.proofs.Keeping.{Each, each-place, at-place, each-append, each-parts, each-map, keep-first, keep-none}
+use Rattle.verdict.proofs.Keeping.{Each, each-place, at-place, each-append, each-parts, keep-first, keep-none}
 use Rattle.verdict.proofs.Turns.{searched-none, searched-suc}
 
 -- ---- sets to watch
@@ -89,7 +88,8 @@ module _ (n : ℕ) where
   each-size P (suc t) k h each =
       go (eq-or-lt-of-le h) (each-parts P (searched n t) (revolving n (suc t)) (subst (Each P) (searched-suc n t) each)) (each-size P t k)
     where
-      go : (suc k ≡ suc t) ⊎ (suc k < suc t) → Each P (searched n t) × Each P (revolving n (suc t)) → (suc k ≤ t → Each P (searched n t) → Each P (revolving n (suc k)))
+      go : (suc k ≡ suc t) ⊎ (suc k < suc t) → Each P (searched n t) × Each P (revolving n (suc t))
+          → (suc k ≤ t → Each P (searched n t) → Each P (revolving n (suc k)))
           → Each P (revolving n (suc k))
       go (inl e) p ih = subst (λ (m : ℕ). Each P (revolving n m)) (sym e) (p .1)
       go (inr l) p ih = ih (le-of-suc-le-suc l) (p .0)
@@ -120,7 +120,8 @@ module _ (table : List ℕ) (shares masks notion order : ℕ) where
   unfolding isBreaking
   all-choose none s w =
       choice (notionOf notion) shares masks (map (wireAt table) s)
-      (λ l. ap (breaks (notionOf notion) shares masks) (sym (pick-map (wireAt table) l s)) ∙ all-whole none (pick l s) (pick-watched table order l s w))
+      (λ l. ap (breaks (notionOf notion) shares masks) (sym (pick-map (wireAt table) l s))
+      ∙ all-whole none (pick l s) (pick-watched table order l s w))
 
   pub shown-none : (s : List ℕ) (later : List (List ℕ)) → keep test (searched (wireCount table) order) ≡ s ∷ later
       → (0 < length s) × Watched table order s × (HasChoice table shares masks notion s → ⊥)

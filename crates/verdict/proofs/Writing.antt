@@ -4,11 +4,12 @@
 use Prim.Native.Nat.{ℕ, suc, _+_, _<_}
 use native.Mathlib.Nat.{zero-add}
 use native.Mathlib.Omega.{arith}
-use mathlib.Core.Path.{_≡_, refl, sym, _∙_, ap, ap₂}
-use mathlib.Core.List.{List, [], _∷_, _++_}
+use mathlib.Core.Path.{_≡_, sym, _∙_, ap, ap₂}
+use mathlib.Core.List.{List, _++_}
 use lib.ListN.{length, getD, set, take, drop}
-use lib.Seq.{paste, paste-zero, paste-suc, length-paste, take-length}
+use lib.Seq.{paste, paste-zero, paste-suc, take-length}
 use Rattle.verdict.specs.Answers.{written}
+use Rattle.verdict.proofs.Keeping.{take-none}
 
 abbrev pub begun : List ℕ → List ℕ → ℕ → List ℕ
 begun found buffer i = paste buffer 0 found i
@@ -26,9 +27,5 @@ begun-more found buffer held i p q e =
 
 pub begun-all : (found buffer held : List ℕ) (i : ℕ) → length found ≡ i → held ≡ begun found buffer i → held ≡ written found buffer
 begun-all found buffer held i e h =
-    h ∙ ap₂ {C = List ℕ} (λ l k. l ++ take i found ++ drop k buffer) (nothing buffer) (zero-add i)
+    h ∙ ap₂ {C = List ℕ} (λ l k. l ++ take i found ++ drop k buffer) (take-none buffer) (zero-add i)
     ∙ ap₂ {C = List ℕ} (λ l k. l ++ drop k buffer) (ap (λ (k : ℕ). take k found) (sym e) ∙ take-length found) (sym e)
-  where
-    nothing : (l : List ℕ) → take 0 l ≡ []
-    nothing [] = refl
-    nothing (x ∷ l) = refl

@@ -113,7 +113,8 @@ pub fn verdict(
     }
 }
 
-// Whether a set of one size breaks the notion at a rank from `from` up to, without, `to`. The first such set is written, rising, at the start of `set`.
+// Whether a set of one size breaks the notion at a rank from `from` up to, without, `to`. The first such set is written, rising, at the
+// start of `set`.
 pub fn range_check(
     table: &[u8],
     shares: usize,

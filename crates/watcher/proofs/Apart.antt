@@ -9,11 +9,11 @@ use mathlib.Core.Bool.{Bool, true, false, not, _&&_, xor}
 use mathlib.Core.List.{List, [], _∷_}
 use lib.ListN.{length}
 use Rattle.basics.specs.Folds.{parity, count, oneIf}
-use Rattle.basics.proofs.Tests.{false-xor, xor-comm, xor-two}
+use Rattle.basics.proofs.Tests.{false-xor, xor-comm, xor-two, xor-true}
 use Rattle.basics.proofs.Folds.{fold-cong}
 use Rattle.watcher.specs.Watcher.{bitLists, equal}
 use Rattle.watcher.proofs.Counting.{count-split}
-use Rattle.watcher.proofs.Bits.{pick, xor-true, bits-first}
+use Rattle.watcher.proofs.Bits.{pick, bits-first}
 
 abbrev pub differ : List Bool → List Bool → List Bool → Bool
 differ p q l = xor (parity (λ b. b) (pick l p)) (parity (λ b. b) (pick l q))

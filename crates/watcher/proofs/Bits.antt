@@ -2,7 +2,6 @@
 --     add l d                     the two lists added bit by bit without carry
 --     pick l v                    the elements of v that the bits l choose
 --     single k                    the list whose bit k alone is set, as its last
---     xor-true                    a bit with 1 added
 --     add-none, bit-add, rest-add      nothing added; a bit of the sum; the sum without its first bit
 --     single-bit, single-length   the bits of that list, and its length
 --     pick-none, pick-first       what is chosen from the empty list; from a longer one, by the first bit
@@ -17,7 +16,7 @@ use Prim.Native.Nat.{ℕ, zero, suc, _+_, _≤_}
 use native.Mathlib.Nat.{not-suc-le-zero, le-of-suc-le-suc, zero-add, add-comm, add-assoc, suc-inj, suc-ne-zero}
 use mathlib.Core.Path.{_≡_, refl, sym, _∙_, ap, ap₂}
 use mathlib.Core.Logic.{_⊎_, inl, inr}
-use mathlib.Core.Bool.{Bool, true, false, cond, not, _&&_, _||_, xor, or-assoc, or-false}
+use mathlib.Core.Bool.{Bool, true, false, cond, _&&_, _||_, xor, or-assoc, or-false}
 use mathlib.Core.List.{List, [], _∷_, map}
 use lib.ListN.{length, getD, drop, replicate, length-replicate}
 use lib.Dec.{eqb, eqb·zero-suc, eqb·suc-zero, eqb·suc-suc}
@@ -35,11 +34,6 @@ add (b ∷ l) (c ∷ d) = xor b c ∷ add l d
 abbrev pub single : ℕ → List Bool
 single zero = true ∷ []
 single (suc k) = false ∷ single k
-
-pub xor-true : (a : Bool) → xor a true ≡ not a
-unfolding xor
-xor-true true = refl
-xor-true false = refl
 
 pub add-none : (l : List Bool) → add l [] ≡ l
 add-none [] = refl

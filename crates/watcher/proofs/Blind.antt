@@ -13,14 +13,14 @@ use mathlib.Core.List.{List}
 use lib.ListN.{length, length-map}
 use lib.Dec.{eqb}
 use Rattle.basics.specs.Folds.{parity, count, oneIf, upTo}
-use Rattle.basics.proofs.Tests.{and-both, xor-comm, xor-assoc, xor-and}
+use Rattle.basics.proofs.Tests.{and-both, xor-comm, xor-assoc, xor-and, xor-true}
 use Rattle.basics.proofs.Folds.{fold-cong, fold-map, some-where}
 use Rattle.wires.specs.Wires.{Terms, Wire, Input, value, total, swap, dependsA, masked}
 use Rattle.wires.proofs.Value.{parity-both, value-total, value-agree}
 use Rattle.wires.proofs.Dependence.{parity-one}
 use Rattle.watcher.specs.Watcher.{bitLists, maskOf, shown, equal, comes, Agree}
 use Rattle.watcher.proofs.Counting.{sum, sum-both, sum-times, sum-exchange}
-use Rattle.watcher.proofs.Bits.{add, pick, single, xor-true, bit-add, single-bit, single-length, pick-map, bits-cong, bits-some, bits-count}
+use Rattle.watcher.proofs.Bits.{add, pick, single, bit-add, single-bit, single-length, pick-map, bits-cong, bits-some, bits-count}
 use Rattle.watcher.proofs.Halves.{halves}
 use Rattle.watcher.proofs.Shares.{named}
 use Rattle.watcher.proofs.Apart.{differ, told-apart}

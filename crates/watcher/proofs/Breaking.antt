@@ -1,54 +1,29 @@
 -- A breaking set admits no choice of shares (demand 3): its sum depends on a share that the choice leaves out, and shows a change there.
 --     value-unmasked    terms that name no mask have one value, whatever the mask setting
---     told-apart        inputs that agree on the choice and give an unmasked sum different values give some pattern from unequally many settings
+--     not-blind         inputs that agree on the choice and give an unmasked sum different values give some pattern from unequally many settings
 --     no-choice         a set that breaks the notion admits no choice
 use Prim.Native.Nat.{ℕ, _+_, _≤_, _<_}
-use native.Mathlib.Nat.{le-refl, lt-of-le-of-lt, zero-add}
+use native.Mathlib.Nat.{lt-of-le-of-lt, zero-add}
 use native.Mathlib.Omega.{arith}
 use mathlib.Core.Path.{_≡_, refl, sym, _∙_, ap}
 use mathlib.Core.Logic.{_⊎_, inl, inr}
-use mathlib.Core.Bool.{Bool, true, false, not, _&&_, _||_, xor, true≢false}
-use mathlib.Core.List.{List, [], _∷_}
-use borrow.Author.Tests.{not-true, eqb-true, eq-eqb}
+use mathlib.Core.Bool.{Bool, true, false, _&&_, xor, true≢false}
+use mathlib.Core.List.{List}
+use borrow.Author.Tests.{eqb-true}
 use lib.ListN.{length, replicate, length-replicate, length-map}
 use lib.Dec.{eqb}
-use Rattle.basics.specs.Folds.{parity, some, oneIf, count, upTo}
-use Rattle.basics.proofs.Tests.{and-left, and-right, or-none, xor-false}
-use Rattle.basics.proofs.Folds.{fold-map, fold-unit, fold-below, some-where}
+use Rattle.basics.specs.Folds.{parity, oneIf, count, upTo}
+use Rattle.basics.proofs.Tests.{xor-false}
+use Rattle.basics.proofs.Folds.{fold-map, fold-unit, fold-below}
 use Rattle.wires.specs.declared.Notion.{Notion}
 use Rattle.wires.specs.Wires.{Terms, Wire, Input, value, total, swap, swapInput, flipA, flipB, dependsA, countA, countB, allowed, breaks}
 use Rattle.wires.proofs.Value.{value-total, value-swap}
 use Rattle.wires.proofs.Dependence.{depends-seen}
 use Rattle.wires.proofs.Breaks.{Breaks, breaks-exactly}
 use Rattle.watcher.specs.Watcher.{bitLists, maskOf, shown, equal, comes, Agree, Choice}
-use Rattle.watcher.proofs.Patterns.{equal-self, equal-exactly, settings-once}
-
--- where every element that passes one test passes another, no more pass the one than the other
-module _ {A : Type 0} (f g : A → Bool) where
-  covered : (l : List A) → some (λ x. g x && not (f x)) l ≡ false → count g l ≤ count f l
-  covered [] e = le-refl 0
-  covered (x ∷ l) e =
-      let parts = or-none (g x && not (f x)) (some (λ x. g x && not (f x)) l) e in
-      omega (arith, one (f x) (g x) (parts .0), covered l (parts .1))
-    where
-      one : (a b : Bool) → (b && not a) ≡ false → oneIf b ≤ oneIf a
-      one true true e = le-refl 1
-      one true false e = omega arith
-      one false true e = absurd (true≢false e)
-      one false false e = le-refl 0
-
--- where more numbers pass one test than another, some number passes the one and not the other
-passes-alone : (n : ℕ) (f g : ℕ → Bool) → count f (upTo n) < count g (upTo n) → (i : ℕ) × (i < n) × (g i ≡ true) × (f i ≡ false)
-passes-alone n f g less = go (some both (upTo n)) refl
-  where
-    both : ℕ → Bool
-    both i = g i && not (f i)
-
-    go : (b : Bool) → some both (upTo n) ≡ b → (i : ℕ) × (i < n) × (g i ≡ true) × (f i ≡ false)
-    go true e =
-        let w = some-where n both e in
-        (w .0, w .1, and-left (g (w .0)) (not (f (w .0))) (w .2), not-true (f (w .0)) (and-right (g (w .0)) (not (f (w .0))) (w .2)))
-    go false e = let most = covered f g (upTo n) e in absurd (omega arith)
+use Rattle.watcher.proofs.Counting.{count-some, passes-alone}
+use Rattle.watcher.proofs.Bits.{bits-some}
+use Rattle.watcher.proofs.Patterns.{equal-self, equal-exactly}
 
 module _ (n m : ℕ) (x : Input) where
   pub value-unmasked : (r s : ℕ → Bool) (t : Terms) → ((k : ℕ) → k < m → t .mask k ≡ false) → value n m x r t ≡ value n m x s t
@@ -67,24 +42,15 @@ module _ (n m : ℕ) (x : Input) where
   comes-once : (r : List Bool) (v : List Wire) → length r ≡ m → 1 ≤ comes n m x v (shown n m x r v)
   unfolding comes
   comes-once r v e =
-      let there = settings-once m r ∙ ap oneIf (eq-eqb (length r) m e) in
-      let most = covered shows (equal r) (bitLists m)
-      (fold-unit _||_ false (λ b. refl) (λ s. equal r s && not (shows s)) (bitLists m) (λ s. same s (equal r s) refl)) in
-      omega (arith, there, most)
-    where
-      shows : List Bool → Bool
-      shows s = equal (shown n m x s v) (shown n m x r v)
-
-      same : (s : List Bool) (b : Bool) → equal r s ≡ b → (b && not (shows s)) ≡ false
-      same s false h = refl
-      same s true h = ap (λ q. not (shows q)) (sym (equal-exactly r s .0 h)) ∙ ap not (equal-self (shown n m x r v))
+      let shows : List Bool → Bool = λ s. equal (shown n m x s v) (shown n m x r v) in
+      count-some shows (bitLists m) (bits-some m shows r e (equal-self (shown n m x r v)))
 
 module _ (notion : Notion) (n m : ℕ) (v : List Wire) (c : Choice notion n m v) where
   -- the pattern that the first input shows where every mask is 0 comes from no setting under the second
-  pub told-apart : ((k : ℕ) → k < m → total v .mask k ≡ false) → (x y : Input) → Agree n (c .chosenA) (c .chosenB) x y
+  pub not-blind : ((k : ℕ) → k < m → total v .mask k ≡ false) → (x y : Input) → Agree n (c .chosenA) (c .chosenB) x y
       → ((r : ℕ → Bool) → value n m x r (total v) ≡ value n m y r (total v) → ⊥) → ⊥
   unfolding comes
-  told-apart unmasked x y agree apart =
+  not-blind unmasked x y agree apart =
       let here = comes-once n m x zeros v (length-replicate m false) in
       let same = c .blind x y agree p (length-map v (λ w. value n m x (maskOf zeros) (w .terms))) in
       let nowhere = fold-unit _+_ 0 zero-add (λ r. oneIf (equal (shown n m y r v) p)) (bitLists m) (λ r. other r (equal (shown n m y r v) p) refl) in
@@ -128,12 +94,12 @@ no-choice notion n m v e c = go (h .exceeds)
     go : (allowed notion v < countA n (total v)) ⊎ (allowed notion v < countB n (total v)) → ⊥
     go (inl more) =
         let w = left-out n m (total v) (c .chosenA) (lt-of-le-of-lt (c .fewA) more) in
-        told-apart notion n m v c (h .unmasked) (w .0) (flipA (w .1) (w .0))
+        not-blind notion n m v c (h .unmasked) (w .0) (flipA (w .1) (w .0))
         (record { onA = λ k b q. untouched (c .chosenA) (w .1) (w .2) (w .0 .ofA) k q; onB = λ k b q. refl })
         (w .3)
     go (inr more) =
         let w = left-out n m (swap (total v)) (c .chosenB) (lt-of-le-of-lt (c .fewB) more) in
         let x = swapInput (w .0) in
-        told-apart notion n m v c (h .unmasked) x (flipB (w .1) x)
+        not-blind notion n m v c (h .unmasked) x (flipB (w .1) x)
         (record { onA = λ k b q. refl; onB = λ k b q. untouched (c .chosenB) (w .1) (w .2) (x .ofB) k q })
         (λ r d. w .3 r (value-swap n m x r (total v) ∙ d ∙ sym (value-swap n m (flipB (w .1) x) r (total v))))

@@ -5,14 +5,17 @@
 --     sum-exchange             two sums in either order
 --     count-split              the elements that pass a test, with a second one and without it
 --     count-none, count-some   a test that passes nowhere; that passes somewhere
-use Prim.Native.Nat.{ℕ, _+_, _*_, _≤_}
+--     covered, passes-alone    where more pass one test than another, something passes the one and not the other
+use Prim.Native.Nat.{ℕ, _+_, _*_, _≤_, _<_}
 use native.Mathlib.Nat.{zero-add, add-comm, add-assoc, add-le-add, add-mul, zero-mul, le-refl}
 use native.Mathlib.Omega.{arith}
 use mathlib.Core.Path.{_≡_, refl, sym, _∙_, ap}
 use mathlib.Core.Bool.{Bool, true, false, not, _&&_, _||_, true≢false, false≢true}
 use mathlib.Core.List.{List, [], _∷_}
-use Rattle.basics.specs.Folds.{fold, some, count, oneIf}
-use Rattle.basics.proofs.Folds.{fold-cong, fold-hom, fold-both, fold-exchange}
+use borrow.Author.Tests.{not-true}
+use Rattle.basics.specs.Folds.{fold, some, count, oneIf, upTo}
+use Rattle.basics.proofs.Tests.{and-left, and-right, or-none}
+use Rattle.basics.proofs.Folds.{fold-cong, fold-hom, fold-both, fold-exchange, some-where}
 
 module _ {A : Type 0} where
   abbrev pub sum : (A → ℕ) → List A → ℕ
@@ -65,3 +68,30 @@ module _ {A : Type 0} where
       go : (b : Bool) → (b || some f l) ≡ true → (some f l ≡ true → 1 ≤ count f l) → 1 ≤ oneIf b + count f l
       go true e rest = omega arith
       go false e rest = omega (arith, rest e)
+
+-- where every element that passes one test passes another, no more pass the one than the other
+module _ {A : Type 0} (f g : A → Bool) where
+  pub covered : (l : List A) → some (λ x. g x && not (f x)) l ≡ false → count g l ≤ count f l
+  covered [] e = le-refl 0
+  covered (x ∷ l) e =
+      let parts = or-none (g x && not (f x)) (some (λ x. g x && not (f x)) l) e in
+      omega (arith, one (f x) (g x) (parts .0), covered l (parts .1))
+    where
+      one : (a b : Bool) → (b && not a) ≡ false → oneIf b ≤ oneIf a
+      one true true e = le-refl 1
+      one true false e = omega arith
+      one false true e = absurd (true≢false e)
+      one false false e = le-refl 0
+
+-- where more numbers pass one test than another, some number passes the one and not the other
+pub passes-alone : (n : ℕ) (f g : ℕ → Bool) → count f (upTo n) < count g (upTo n) → (i : ℕ) × (i < n) × (g i ≡ true) × (f i ≡ false)
+passes-alone n f g less = go (some both (upTo n)) refl
+  where
+    both : ℕ → Bool
+    both i = g i && not (f i)
+
+    go : (b : Bool) → some both (upTo n) ≡ b → (i : ℕ) × (i < n) × (g i ≡ true) × (f i ≡ false)
+    go true e =
+        let w = some-where n both e in
+        (w .0, w .1, and-left (g (w .0)) (not (f (w .0))) (w .2), not-true (f (w .0)) (and-right (g (w .0)) (not (f (w .0))) (w .2)))
+    go false e = let most = covered f g (upTo n) e in absurd (omega arith)

@@ -10,11 +10,11 @@ use mathlib.Core.Bool.{Bool, true, false, not, _&&_, xor}
 use mathlib.Core.List.{List}
 use lib.ListN.{length}
 use Rattle.basics.specs.Folds.{some, count, oneIf}
-use Rattle.basics.proofs.Tests.{and-left, and-right}
+use Rattle.basics.proofs.Tests.{and-left, and-right, xor-true}
 use Rattle.basics.proofs.Folds.{fold-cong}
 use Rattle.watcher.specs.Watcher.{bitLists}
 use Rattle.watcher.proofs.Counting.{count-split, count-none}
-use Rattle.watcher.proofs.Bits.{add, xor-true, bits-where, bits-shift}
+use Rattle.watcher.proofs.Bits.{add, bits-where, bits-shift}
 
 abbrev pub Additive : (List Bool → Bool) → Type 0
 Additive h = (l d : List Bool) → h (add l d) ≡ xor (h l) (h d)

@@ -6,7 +6,6 @@
 --     patterns-of-all              every setting shows exactly one pattern
 use Prim.Native.Nat.{ℕ, zero, suc, _+_, _^_, _<_, suc-le-suc}
 use native.Mathlib.Nat.{not-suc-le-zero, le-of-suc-le-suc, zero-lt-suc, zero-add, add-zero, add-comm, add-assoc, suc-inj, suc-ne-zero, two-pow-succ}
-use native.Mathlib.Omega.{arith}
 use mathlib.Core.Path.{_≡_, refl, sym, _∙_, ap, ap₂}
 use mathlib.Core.Logic.{_↔_}
 use mathlib.Core.Bool.{Bool, true, false, not, xor, false≢true}
@@ -16,9 +15,10 @@ use lib.ListN.{length, getD, length-append, length-map}
 use lib.Dec.{eqb, eqb·zero-suc, eqb·suc-zero, eqb·suc-suc}
 use Rattle.basics.specs.Folds.{fold, oneIf, count}
 use Rattle.basics.proofs.Tests.{and-left, and-right, and-both, xor-self, xor-same}
-use Rattle.basics.proofs.Folds.{fold-cong, fold-map, fold-unit, fold-append, fold-exchange}
+use Rattle.basics.proofs.Folds.{fold-cong, fold-unit, fold-exchange, count-all}
 use Rattle.wires.specs.Wires.{Wire, Input, value}
 use Rattle.watcher.specs.Watcher.{bitLists, maskOf, shown, equal, comes}
+use Rattle.watcher.proofs.Bits.{bits-first}
 
 pub equal-self : (p : List Bool) → equal p p ≡ true
 equal-self [] = refl
@@ -39,14 +39,6 @@ equal-exactly p q = (there p q, λ e. ap (equal p) (sym e) ∙ equal-self p)
     there (b ∷ p) [] e = absurd (false≢true e)
     there (b ∷ p) (c ∷ q) e = ap₂ {C = List Bool} _∷_ (same-bit b c p q e) (there p q (same-rest b c p q e))
 
--- the settings with the first mask 0, and those with it 1
-halves : (f : List Bool → ℕ) (m : ℕ)
-    → fold _+_ 0 f (bitLists (suc m)) ≡ fold _+_ 0 (λ r. f (false ∷ r)) (bitLists m) + fold _+_ 0 (λ r. f (true ∷ r)) (bitLists m)
-unfolding bitLists
-halves f m =
-    fold-append _+_ 0 zero-add add-assoc f (map (λ r. false ∷ r) (bitLists m)) (map (λ r. true ∷ r) (bitLists m))
-    ∙ ap₂ _+_ (fold-map _+_ 0 (λ r. false ∷ r) f (bitLists m)) (fold-map _+_ 0 (λ r. true ∷ r) f (bitLists m))
-
 nowhere : (m : ℕ) → count (λ r. false) (bitLists m) ≡ 0
 nowhere m = fold-unit _+_ 0 zero-add (λ r. 0) (bitLists m) (λ r. refl)
 
@@ -55,12 +47,14 @@ unfolding bitLists xor
 settings-once zero [] = refl
 settings-once zero (b ∷ r) = sym (ap oneIf (eqb·suc-zero (length r)))
 settings-once (suc m) [] =
-    halves (λ s. oneIf (equal [] s)) m ∙ ap₂ _+_ (nowhere m) (nowhere m) ∙ sym (ap oneIf (eqb·zero-suc m))
+    bits-first _+_ 0 zero-add add-assoc m (λ s. oneIf (equal [] s)) ∙ ap₂ _+_ (nowhere m) (nowhere m) ∙ sym (ap oneIf (eqb·zero-suc m))
 settings-once (suc m) (false ∷ r) =
-    halves (λ s. oneIf (equal (false ∷ r) s)) m ∙ ap₂ _+_ (settings-once m r) (nowhere m) ∙ add-zero (oneIf (eqb (length r) m))
+    bits-first _+_ 0 zero-add add-assoc m (λ s. oneIf (equal (false ∷ r) s)) ∙ ap₂ _+_ (settings-once m r) (nowhere m)
+    ∙ add-zero (oneIf (eqb (length r) m))
     ∙ sym (ap oneIf (eqb·suc-suc (length r) m))
 settings-once (suc m) (true ∷ r) =
-    halves (λ s. oneIf (equal (true ∷ r) s)) m ∙ ap₂ _+_ (nowhere m) (settings-once m r) ∙ zero-add (oneIf (eqb (length r) m))
+    bits-first _+_ 0 zero-add add-assoc m (λ s. oneIf (equal (true ∷ r) s)) ∙ ap₂ _+_ (nowhere m) (settings-once m r)
+    ∙ zero-add (oneIf (eqb (length r) m))
     ∙ sym (ap oneIf (eqb·suc-suc (length r) m))
 
 pub settings-number : (m : ℕ) → length (bitLists m) ≡ 2 ^ m
@@ -95,10 +89,6 @@ pub comes-exactly : (n m : ℕ) (x : Input) (r : List Bool) (v : List Wire) (p :
     → (equal (shown n m x r v) p ≡ true) ↔ ((k : ℕ) → k < length v → (d : Wire) → value n m x (maskOf r) (getD v k d .terms) ≡ getD p k false)
 comes-exactly n m x r v p e = by-place (λ w. value n m x (maskOf r) (w .terms)) v p e
 
-ones : {A : Type 0} (l : List A) → fold _+_ 0 (λ x. 1) l ≡ length l
-ones [] = refl
-ones (x ∷ l) = let more : 1 + length l ≡ suc (length l) = omega arith in ap (λ (k : ℕ). 1 + k) (ones l) ∙ more
-
 pub patterns-of-all : (n m : ℕ) (x : Input) (v : List Wire) → fold _+_ 0 (comes n m x v) (bitLists (length v)) ≡ length (bitLists m)
 unfolding comes
 patterns-of-all n m x v =
@@ -106,4 +96,4 @@ patterns-of-all n m x v =
     ∙ fold-cong _+_ 0 (λ r. count (equal (shown n m x r v)) (bitLists (length v))) (λ r. 1) (bitLists m)
     (λ r. settings-once (length v) (shown n m x r v)
     ∙ ap oneIf (eq-eqb (length (shown n m x r v)) (length v) (length-map v (λ w. value n m x (maskOf r) (w .terms)))))
-    ∙ ones (bitLists m)
+    ∙ count-all (bitLists m)

@@ -16,14 +16,13 @@ use lib.Dec.{ltb}
 use lib.ListN.{length}
 use Rattle.basics.specs.Folds.{some, oneIf, upTo}
 use Rattle.basics.proofs.Tests.{and-left, and-right, and-both, or-left, or-right, or-cases}
-use Rattle.basics.proofs.Folds.{fold-map, fold-hom, fold-unit, none-below, never}
+use Rattle.basics.proofs.Folds.{fold-map, fold-hom, fold-unit, count-all, none-below, never}
 use Rattle.wires.specs.declared.Notion.{Notion}
 use Rattle.wires.specs.declared.Notion.the-variants.{Ni, Sni}
 use Rattle.wires.specs.Wires.{Terms, Wire, none, plus, total, swap, countA, countB, masked, allowed, breaks}
 
 pub allowed-ni : (s : List Wire) → allowed Ni s ≡ length s
-allowed-ni [] = refl
-allowed-ni (w ∷ s) = let more : 1 + length s ≡ suc (length s) = omega arith in ap (λ (k : ℕ). 1 + k) (allowed-ni s) ∙ more
+allowed-ni s = count-all s
 
 pub allowed-sni : (w : Wire) (s : List Wire) → allowed Sni (w ∷ s) ≡ cond (w .outer) (allowed Sni s) (suc (allowed Sni s))
 allowed-sni w s = go (w .outer)

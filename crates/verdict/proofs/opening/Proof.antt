@@ -1,6 +1,6 @@
 -- `verdict::opening` meets its contract: the tests' refusal, or the notion of the number, or 14.
 -- Assumes nothing.
-use mathlib.Core.Path.{refl, sym, _∙_, ap}
+use mathlib.Core.Path.{sym, _∙_, ap}
 use borrow.Author.Needs.{needs}
 use Rattle.wires.specs.declared.Notion.the-variants.{Ni, Sni}
 use Rattle.table.specs.Answers.{tableTold}
@@ -21,7 +21,8 @@ enum-told c = search needs
 returns : tie.Need-returns
 returns c =
     let a = c .before .before .before .before .before .args in
-    open-refused (a .table .now) (a .shares) (a .masks) (a .notion) _ (ap tableTold (sym (c .before .tested .given .1)) ∙ c .before .before .before .table-check .ensures)
+    open-refused (a .table .now) (a .shares) (a .masks) (a .notion) _ (ap tableTold (sym (c .before .tested .given .1))
+    ∙ c .before .before .before .table-check .ensures)
 
 returns-2 : tie.Need-returns-2
 unfolding notionNumber

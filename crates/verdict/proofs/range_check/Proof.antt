@@ -19,51 +19,74 @@ enum-known-opened-2 c = search needs
 
 returns : tie.Need-returns
 returns c =
-    let a = c .before .before .before .before .before .before .before .args in
-    size-large (a .table .now) (a .shares) (a .masks) (a .notion) (a .size) (a .from) (a .to) (a .set .now) _ (ap openedTold (sym (c .before .before .opened2 .given .1)) ∙ c .before .before .before .before .opening .ensures) (c .if1 .taken)
+    let o = c .before .before in
+    let a = o .before .before .before .before .before .args in
+    let told = ap openedTold (sym (o .opened2 .given .1)) ∙ o .before .before .opening .ensures in
+    size-large (a .table .now) (a .shares) (a .masks) (a .notion) (a .size) (a .from) (a .to) (a .set .now) _ told (c .if1 .taken)
 
 returns-2 : tie.Need-returns-2
 returns-2 c =
-    let a = c .before .before .before .before .before .before .before .before .args in
-    range-room (a .table .now) (a .shares) (a .masks) (a .notion) (a .size) (a .from) (a .to) (a .set .now) _ (ap openedTold (sym (c .before .before .before .opened2 .given .1)) ∙ c .before .before .before .before .before .opening .ensures) (c .before .if1 .left) (c .if2 .taken)
+    let o = c .before .before .before in
+    let a = o .before .before .before .before .before .args in
+    let told = ap openedTold (sym (o .opened2 .given .1)) ∙ o .before .before .opening .ensures in
+    range-room (a .table .now) (a .shares) (a .masks) (a .notion) (a .size) (a .from) (a .to) (a .set .now) _ told (c .before .if1 .left)
+    (c .if2 .taken)
 
 table-requires : tie.Need-table-requires
 table-requires c κs = search needs
 
 count-requires : tie.Need-count-requires
 count-requires c κs =
-    let a = c .before .before .before .before .before .before .before .before .before .before .args in
-    let most = short (a .table .now) (a .shares) (a .masks) (a .notion) _ (ap openedTold (sym (c .before .before .before .before .before .opened2 .given .1)) ∙ c .before .before .before .before .before .before .before .opening .ensures) in
+    let t = c .before .before in
+    let o = t .before .before .before in
+    let a = o .before .before .before .before .before .args in
+    let told = ap openedTold (sym (o .opened2 .given .1)) ∙ o .before .before .opening .ensures in
+    let most = short (a .table .now) (a .shares) (a .masks) (a .notion) _ told in
     search needs
 
 returns-3 : tie.Need-returns-3
 returns-3 c =
-    let a = c .before .before .before .before .before .before .before .before .before .before .before .before .args in
-    ranks-low (a .table .now) (a .shares) (a .masks) (a .notion) (a .size) (a .from) (a .to) (a .set .now) _ (ap openedTold (sym (c .before .before .before .before .before .before .before .opened2 .given .1)) ∙ c .before .before .before .before .before .before .before .before .before .opening .ensures) (c .before .before .before .before .before .if1 .left) (c .before .before .before .before .if2 .left) (c .if3 .taken)
+    let t = c .before .before .before .before in
+    let o = t .before .before .before in
+    let a = o .before .before .before .before .before .args in
+    let told = ap openedTold (sym (o .opened2 .given .1)) ∙ o .before .before .opening .ensures in
+    ranks-low (a .table .now) (a .shares) (a .masks) (a .notion) (a .size) (a .from) (a .to) (a .set .now) _ told (t .before .if1 .left)
+    (t .if2 .left) (c .if3 .taken)
 
 returns-4 : tie.Need-returns-4
 returns-4 c =
-    let a = c .before .before .before .before .before .before .before .before .before .before .before .before .before .args in
+    let t = c .before .before .before .before .before in
+    let o = t .before .before .before in
+    let a = o .before .before .before .before .before .args in
+    let told = ap openedTold (sym (o .opened2 .given .1)) ∙ o .before .before .opening .ensures in
     let all = c .before .before .count .ensures in
-    ranks-high (a .table .now) (a .shares) (a .masks) (a .notion) (a .size) (a .from) (a .to) (a .set .now) _ (ap openedTold (sym (c .before .before .before .before .before .before .before .before .opened2 .given .1)) ∙ c .before .before .before .before .before .before .before .before .before .before .opening .ensures)
-    (c .before .before .before .before .before .before .if1 .left) (c .before .before .before .before .before .if2 .left) (c .before .if3 .left) (omega (arith, all, c .if4 .taken))
+    ranks-high (a .table .now) (a .shares) (a .masks) (a .notion) (a .size) (a .from) (a .to) (a .set .now) _ told (t .before .if1 .left)
+    (t .if2 .left) (c .before .if3 .left) (omega (arith, all, c .if4 .taken))
 
 slice-aggregate-first-breaking-rank : tie.Need-slice-aggregate-first-breaking-rank
 slice-aggregate-first-breaking-rank c = search needs
 
 first-breaking-rank-requires : tie.Need-first-breaking-rank-requires
 first-breaking-rank-requires c κs =
-    let a = c .before .before .before .before .before .before .before .before .before .before .before .before .before .before .before .args in
-    let most = short (a .table .now) (a .shares) (a .masks) (a .notion) _ (ap openedTold (sym (c .before .before .before .before .before .before .before .before .before .before .opened2 .given .1)) ∙ c .before .before .before .before .before .before .before .before .before .before .before .before .opening .ensures) in
+    let t = c .before .before .before .before .before .before .before in
+    let o = t .before .before .before in
+    let a = o .before .before .before .before .before .args in
+    let told = ap openedTold (sym (o .opened2 .given .1)) ∙ o .before .before .opening .ensures in
+    let most = short (a .table .now) (a .shares) (a .masks) (a .notion) _ told in
     let all = c .before .before .before .before .count .ensures in
     (search needs, (most, search needs, search needs, search needs, omega (arith, all, c .before .before .if4 .left)))
 
 returns-5 : tie.Need-returns-5
 returns-5 c =
-    let a = c .before .before .before .before .before .before .before .before .before .before .before .before .before .before .before .before .before .before .args in
-    let all = c .before .before .before .before .before .before .before .count .ensures in
-    range-clean (a .table .now) (a .shares) (a .masks) (a .notion) (a .size) (a .from) (a .to) (a .set .now) _ (ap openedTold (sym (c .before .before .before .before .before .before .before .before .before .before .before .before .before .opened2 .given .1)) ∙ c .before .before .before .before .before .before .before .before .before .before .before .before .before .before .before .opening .ensures)
-    (c .before .before .before .before .before .before .before .before .before .before .before .if1 .left) (c .before .before .before .before .before .before .before .before .before .before .if2 .left) (c .before .before .before .before .before .before .if3 .left) (omega (arith, all, c .before .before .before .before .before .if4 .left)) _ _ (c .before .before .first-breaking-rank .ensures) (c .if5 .taken)
+    let e = c .before .before .before .before .before in
+    let t = e .before .before .before .before .before in
+    let o = t .before .before .before in
+    let a = o .before .before .before .before .before .args in
+    let told = ap openedTold (sym (o .opened2 .given .1)) ∙ o .before .before .opening .ensures in
+    let all = e .before .before .count .ensures in
+    range-clean (a .table .now) (a .shares) (a .masks) (a .notion) (a .size) (a .from) (a .to) (a .set .now) _ told (t .before .if1 .left)
+    (t .if2 .left) (e .before .if3 .left)
+    (omega (arith, all, e .if4 .left)) _ _ (c .before .before .first-breaking-rank .ensures) (c .if5 .taken)
 
 sub-write : tie.Need-sub-write
 sub-write c = search needs
@@ -80,17 +103,25 @@ write-requires c κs = search needs
 returns-6 : tie.Need-returns-6
 returns-6 c =
     let a = c .before .before .before .before .before .before .args in
-    range-before (a .table .now) (a .shares) (a .masks) (a .notion) (a .size) (a .from) (a .to) (a .set .now) _ (ap openedTold (sym (c .before .opened .given .1)) ∙ c .before .before .before .opening .ensures)
+    range-before (a .table .now) (a .shares) (a .masks) (a .notion) (a .size) (a .from) (a .to) (a .set .now) _
+    (ap openedTold (sym (c .before .opened .given .1)) ∙ c .before .before .before .opening .ensures)
 
 same-length : tie.Need-same-length
 same-length c = search needs
 
 returns-7 : tie.Need-returns-7
 returns-7 c =
-    let a = c .before .before .before .before .before .before .before .before .before .before .before .before .before .before .before .before .before .before .before .before .before .before .before .before .args in
-    let all = c .before .before .before .before .before .before .before .before .before .before .before .before .before .count .ensures in
-    range-found (a .table .now) (a .shares) (a .masks) (a .notion) (a .size) (a .from) (a .to) (a .set .now) _ (ap openedTold (sym (c .before .before .before .before .before .before .before .before .before .before .before .before .before .before .before .before .before .before .before .opened2 .given .1)) ∙ c .before .before .before .before .before .before .before .before .before .before .before .before .before .before .before .before .before .before .before .before .before .opening .ensures)
-    (c .before .before .before .before .before .before .before .before .before .before .before .before .before .before .before .before .before .if1 .left) (c .before .before .before .before .before .before .before .before .before .before .before .before .before .before .before .before .if2 .left) (c .before .before .before .before .before .before .before .before .before .before .before .before .if3 .left) (omega (arith, all, c .before .before .before .before .before .before .before .before .before .before .before .if4 .left)) _ _ (c .before .before .before .before .before .before .before .before .first-breaking-rank .ensures) (c .before .before .before .before .before .before .if5 .left) _ (c .before .before .write .ensures)
+    let e = c .before .before .before .before .before .before .before .before .before .before .before in
+    let t = e .before .before .before .before .before in
+    let o = t .before .before .before in
+    let a = o .before .before .before .before .before .args in
+    let told = ap openedTold (sym (o .opened2 .given .1)) ∙ o .before .before .opening .ensures in
+    let all = e .before .before .count .ensures in
+    range-found (a .table .now) (a .shares) (a .masks) (a .notion) (a .size) (a .from) (a .to) (a .set .now) _ told (t .before .if1 .left)
+    (t .if2 .left) (e .before .if3 .left)
+    (omega (arith, all, e .if4 .left)) _ _ (c .before .before .before .before .before .before .before .before .first-breaking-rank .ensures)
+    (c .before .before .before .before .before .before .if5 .left) _
+    (c .before .before .write .ensures)
 
 pub range-check-spec : {M : Type 1} → statement M
 range-check-spec =

@@ -18,20 +18,27 @@ enum-known-opened-2 c = search needs
 
 returns : tie.Need-returns
 returns c =
-    let a = c .before .before .before .before .before .before .before .args in
-    let p = order-low (a .table .now) (a .shares) (a .masks) (a .notion) (a .order) (a .set .now) _ (ap openedTold (sym (c .before .before .opened2 .given .1)) ∙ c .before .before .before .before .opening .ensures) (c .if1 .taken) in
+    let o = c .before .before in
+    let a = o .before .before .before .before .before .args in
+    let told = ap openedTold (sym (o .opened2 .given .1)) ∙ o .before .before .opening .ensures in
+    let p = order-low (a .table .now) (a .shares) (a .masks) (a .notion) (a .order) (a .set .now) _ told (c .if1 .taken) in
     (p .equation, p .guarantee)
 
 returns-2 : tie.Need-returns-2
 returns-2 c =
-    let a = c .before .before .before .before .before .before .before .before .args in
-    let p = order-high (a .table .now) (a .shares) (a .masks) (a .notion) (a .order) (a .set .now) _ (ap openedTold (sym (c .before .before .before .opened2 .given .1)) ∙ c .before .before .before .before .before .opening .ensures) (c .if2 .taken) in
+    let o = c .before .before .before in
+    let a = o .before .before .before .before .before .args in
+    let told = ap openedTold (sym (o .opened2 .given .1)) ∙ o .before .before .opening .ensures in
+    let p = order-high (a .table .now) (a .shares) (a .masks) (a .notion) (a .order) (a .set .now) _ told (c .if2 .taken) in
     (p .equation, p .guarantee)
 
 returns-3 : tie.Need-returns-3
 returns-3 c =
-    let a = c .before .before .before .before .before .before .before .before .before .args in
-    let p = no-room (a .table .now) (a .shares) (a .masks) (a .notion) (a .order) (a .set .now) _ (ap openedTold (sym (c .before .before .before .before .opened2 .given .1)) ∙ c .before .before .before .before .before .before .opening .ensures) (c .before .before .if1 .left) (c .before .if2 .left) (c .if3 .taken) in
+    let o = c .before .before .before .before in
+    let a = o .before .before .before .before .before .args in
+    let told = ap openedTold (sym (o .opened2 .given .1)) ∙ o .before .before .opening .ensures in
+    let p = no-room (a .table .now) (a .shares) (a .masks) (a .notion) (a .order) (a .set .now) _ told (c .before .before .if1 .left)
+    (c .before .if2 .left) (c .if3 .taken) in
     (p .equation, p .guarantee)
 
 slice-aggregate-first-breaking : tie.Need-slice-aggregate-first-breaking
@@ -39,15 +46,21 @@ slice-aggregate-first-breaking c = search needs
 
 first-breaking-requires : tie.Need-first-breaking-requires
 first-breaking-requires c κs =
-    let a = c .before .before .before .before .before .before .before .before .before .before .args in
-    let told = (ap openedTold (sym (c .before .before .before .before .before .opened2 .given .1)) ∙ c .before .before .before .before .before .before .before .opening .ensures) in
-    (short (a .table .now) (a .shares) (a .masks) (a .notion) _ told, order-within (a .table .now) (a .shares) (a .masks) (a .notion) _ told (a .order) (c .before .before .if2 .left), order-within (a .table .now) (a .shares) (a .masks) (a .notion) _ told (a .order) (c .before .before .if2 .left))
+    let t = c .before in
+    let o = t .before .before .before .before in
+    let a = o .before .before .before .before .before .args in
+    let told = ap openedTold (sym (o .opened2 .given .1)) ∙ o .before .before .opening .ensures in
+    let seven = order-within (a .table .now) (a .shares) (a .masks) (a .notion) _ told (a .order) (t .before .if2 .left) in
+    (short (a .table .now) (a .shares) (a .masks) (a .notion) _ told, seven, seven)
 
 returns-4 : tie.Need-returns-4
 returns-4 c =
-    let a = c .before .before .before .before .before .before .before .before .before .before .before .before .before .args in
-    let p = found-none (a .table .now) (a .shares) (a .masks) (a .notion) (a .order) (a .set .now) _ (ap openedTold (sym (c .before .before .before .before .before .before .before .before .opened2 .given .1)) ∙ c .before .before .before .before .before .before .before .before .before .before .opening .ensures)
-    (c .before .before .before .before .before .before .if1 .left) (c .before .before .before .before .before .if2 .left) (c .before .before .before .before .if3 .left) _ _ (c .before .before .first-breaking .ensures) (c .if4 .taken) in
+    let t = c .before .before .before .before in
+    let o = t .before .before .before .before in
+    let a = o .before .before .before .before .before .args in
+    let told = ap openedTold (sym (o .opened2 .given .1)) ∙ o .before .before .opening .ensures in
+    let p = found-none (a .table .now) (a .shares) (a .masks) (a .notion) (a .order) (a .set .now) _ told (t .before .before .if1 .left)
+    (t .before .if2 .left) (t .if3 .left) _ _ (c .before .before .first-breaking .ensures) (c .if4 .taken) in
     (p .equation, p .guarantee)
 
 sub-write : tie.Need-sub-write
@@ -58,24 +71,31 @@ part-write-start c = search needs
 
 part-write-end : tie.Need-part-write-end
 part-write-end c =
-    let a = c .before .before .before .before .before .before .before .before .before .before .before .before .before .before .args in
-    let told = (ap openedTold (sym (c .before .before .before .before .before .before .before .before .before .opened2 .given .1)) ∙ c .before .before .before .before .before .before .before .before .before .before .before .opening .ensures) in
-    let most = size-within (a .table .now) (a .shares) (a .masks) (a .notion) (a .order) (a .set .now) _ told (c .before .before .before .before .before .before .before .if1 .left) (c .before .before .before .before .before .before .if2 .left) (c .before .before .before .before .before .if3 .left) _ _ (c .before .before .before .first-breaking .ensures) in
-    let seven = order-within (a .table .now) (a .shares) (a .masks) (a .notion) _ told (a .order) (c .before .before .before .before .before .before .if2 .left) in
+    let t = c .before .before .before .before .before in
+    let o = t .before .before .before .before in
+    let a = o .before .before .before .before .before .args in
+    let told = ap openedTold (sym (o .opened2 .given .1)) ∙ o .before .before .opening .ensures in
+    let most = size-within (a .table .now) (a .shares) (a .masks) (a .notion) (a .order) (a .set .now) _ told (t .before .before .if1 .left)
+    (t .before .if2 .left) (t .if3 .left) _ _ (c .before .before .before .first-breaking .ensures) in
+    let seven = order-within (a .table .now) (a .shares) (a .masks) (a .notion) _ told (a .order) (t .before .if2 .left) in
     search needs
 
 write-requires : tie.Need-write-requires
 write-requires c κs =
-    let a = c .before .before .before .before .before .before .before .before .before .before .before .before .before .before .before .before .args in
-    let told = (ap openedTold (sym (c .before .before .before .before .before .before .before .before .before .before .before .opened2 .given .1)) ∙ c .before .before .before .before .before .before .before .before .before .before .before .before .before .opening .ensures) in
-    let most = size-within (a .table .now) (a .shares) (a .masks) (a .notion) (a .order) (a .set .now) _ told (c .before .before .before .before .before .before .before .before .before .if1 .left) (c .before .before .before .before .before .before .before .before .if2 .left) (c .before .before .before .before .before .before .before .if3 .left) _ _ (c .before .before .before .before .before .first-breaking .ensures) in
-    let seven = order-within (a .table .now) (a .shares) (a .masks) (a .notion) _ told (a .order) (c .before .before .before .before .before .before .before .before .if2 .left) in
+    let t = c .before .before .before .before .before .before .before in
+    let o = t .before .before .before .before in
+    let a = o .before .before .before .before .before .args in
+    let told = ap openedTold (sym (o .opened2 .given .1)) ∙ o .before .before .opening .ensures in
+    let most = size-within (a .table .now) (a .shares) (a .masks) (a .notion) (a .order) (a .set .now) _ told (t .before .before .if1 .left)
+    (t .before .if2 .left) (t .if3 .left) _ _ (c .before .before .before .before .before .first-breaking .ensures) in
+    let seven = order-within (a .table .now) (a .shares) (a .masks) (a .notion) _ told (a .order) (t .before .if2 .left) in
     search needs
 
 returns-5 : tie.Need-returns-5
 returns-5 c =
     let a = c .before .before .before .before .before .before .args in
-    let p = before (a .table .now) (a .shares) (a .masks) (a .notion) (a .order) (a .set .now) _ (ap openedTold (sym (c .before .opened .given .1)) ∙ c .before .before .before .opening .ensures) in
+    let told = ap openedTold (sym (c .before .opened .given .1)) ∙ c .before .before .before .opening .ensures in
+    let p = before (a .table .now) (a .shares) (a .masks) (a .notion) (a .order) (a .set .now) _ told in
     (p .equation, p .guarantee)
 
 same-length : tie.Need-same-length
@@ -83,9 +103,14 @@ same-length c = search needs
 
 returns-6 : tie.Need-returns-6
 returns-6 c =
-    let a = c .before .before .before .before .before .before .before .before .before .before .before .before .before .before .before .before .before .before .before .args in
-    let p = found-set (a .table .now) (a .shares) (a .masks) (a .notion) (a .order) (a .set .now) _ (ap openedTold (sym (c .before .before .before .before .before .before .before .before .before .before .before .before .before .before .opened2 .given .1)) ∙ c .before .before .before .before .before .before .before .before .before .before .before .before .before .before .before .before .opening .ensures)
-    (c .before .before .before .before .before .before .before .before .before .before .before .before .if1 .left) (c .before .before .before .before .before .before .before .before .before .before .before .if2 .left) (c .before .before .before .before .before .before .before .before .before .before .if3 .left) _ _ (c .before .before .before .before .before .before .before .before .first-breaking .ensures) (c .before .before .before .before .before .before .if4 .left) _ (c .before .before .write .ensures) in
+    let t = c .before .before .before .before .before .before .before .before .before .before in
+    let o = t .before .before .before .before in
+    let a = o .before .before .before .before .before .args in
+    let told = ap openedTold (sym (o .opened2 .given .1)) ∙ o .before .before .opening .ensures in
+    let p =
+    found-set (a .table .now) (a .shares) (a .masks) (a .notion) (a .order) (a .set .now) _ told (t .before .before .if1 .left)
+    (t .before .if2 .left) (t .if3 .left) _ _ (c .before .before .before .before .before .before .before .before .first-breaking .ensures)
+    (c .before .before .before .before .before .before .if4 .left) _ (c .before .before .write .ensures) in
     (p .equation, p .guarantee)
 
 pub verdict-spec : {M : Type 1} → statement M

@@ -1,8 +1,7 @@
 -- `verdict::write` meets its contract: before each turn the first numbers are copied, and the rest of the buffer is as it was.
 -- Assumes nothing.
 use Prim.Native.Nat.{_-_, _≤_}
-use native.Mathlib.Omega.{arith}
-use mathlib.Core.Path.{_≡_, refl, sym, _∙_}
+use mathlib.Core.Path.{_≡_, refl}
 use lib.ListN.{length}
 use borrow.Author.Needs.{needs}
 use Rattle.verdict.proofs.Writing.{begun, begun-none, begun-more, begun-all}

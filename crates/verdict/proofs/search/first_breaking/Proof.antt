@@ -4,7 +4,6 @@ use Prim.Native.Nat.{_+_, _-_, _≤_}
 use native.Mathlib.Omega.{arith}
 use mathlib.Core.Path.{_≡_, refl, sym, _∙_}
 use lib.ListN.{length}
-use borrow.Author.Tests.{not-true}
 use borrow.Author.Needs.{needs}
 use Rattle.records.specs.Layout.{wireCount}
 use Rattle.verdict.specs.Search.{isBreaking}
@@ -21,7 +20,8 @@ abbrev μ-loop : tie.MeasureT-loop
 
 abbrev Inv-search : tie.InvT-search
 Inv-search table notion order probes₀ counts wires found₀ size₀ probes found size =
-    (found ≡ 0) × (length probes ≡ length probes₀) × (1 ≤ size) × (size ≤ order + 1) × SizesClean (isBreaking notion table 8 64) (wireCount table) size
+    (found ≡ 0) × (length probes ≡ length probes₀) × (1 ≤ size) × (size ≤ order + 1)
+    × SizesClean (isBreaking notion table 8 64) (wireCount table) size
 
 abbrev μ-search : tie.MeasureT-search
 μ-search table notion order probes₀ counts wires found₀ size₀ probes found size = order + 1 - size
@@ -49,8 +49,13 @@ loop-less c = search needs
 
 loop-again : tie.Need-loop-again Inv-loop μ-loop Inv-search μ-search
 loop-again c =
-    let l = c .before .before .before .before .before .before .before .loop in
-    (l .inv .0, search needs, search needs, next-rank _ _ _ _ (search needs) (l .inv .3) (sym (c .before .before .before .rank-breaks .ensures .0) ∙ c .if1 .left))
+    let l = c .before .before .before .before .before .before .before .loop in (
+      l .inv .0,
+      search needs,
+      search needs,
+      next-rank _ _ _ _ (search needs) (l .inv .3)
+          (sym (c .before .before .before .rank-breaks .ensures .0) ∙ c .if1 .left),
+    )
 
 add-size : tie.Need-add-size Inv-loop μ-loop Inv-search μ-search
 add-size c = search needs

@@ -1,7 +1,6 @@
 -- `verdict::search::first_breaking_rank` meets its contract: before each turn nothing was found in the ranks below, and one that breaks is then the
 -- first. Assumes nothing.
 use Prim.Native.Nat.{_-_, _≤_}
-use native.Mathlib.Omega.{arith}
 use mathlib.Core.Path.{_≡_, refl, sym, _∙_}
 use lib.ListN.{length}
 use borrow.Author.Needs.{needs}

@@ -1,6 +1,5 @@
 -- `verdict::search::rank_breaks` meets its contract: the set that `unrank` wrote is what `set_breaks` looks at.
 -- Assumes nothing.
-use mathlib.Core.Path.{refl}
 use borrow.Author.Needs.{needs}
 use Rattle.verdict.proofs.Turns.{looked-inside, looked}
 use Rattle.verdict.proofs.search.rank_breaks.Statement.{statement}
