@@ -1,19 +1,31 @@
 -- Examples, proved by running the definitions: the scope's texts A, B and C, a break that takes two wires, and the refusals on both sides
 -- of their limits.
+--     texts, two-wires, ranges, verdict-refusals, range-refusals, empty-table     what is told
+--     holds-refused, wire-0-refused, broken-refused     what demand 3's clause alone turns away
 --     pair     a table in which no wire breaks by itself, and wires 1 and 2 together do
 use Prim.Native.Nat.{ℕ}
+use native.Mathlib.Nat.{le-refl}
+use native.Mathlib.Omega.{arith}
 use mathlib.Core.Path.{_≡_, refl}
 use mathlib.Core.Bool.{xor}
 use mathlib.Core.List.{List, [], _∷_, _++_, map}
+use lib.ListN.{take}
 use Rattle.basics.specs.Folds.{upTo}
 use Rattle.basics.specs.Told.{Lent, values, refusal}
+use Rattle.wires.specs.declared.Notion.the-variants.{Ni}
 use Rattle.wires.specs.Wires.{countA, masked, breaks, beyond}
+use Rattle.watcher.proofs.Breaking.{no-choice}
 use Rattle.records.specs.Words.{bit}
+use Rattle.records.specs.Layout.{wireAt}
 use Rattle.counts.specs.Counts.{binom}
 use Rattle.sets.specs.Order.{revolving}
 use Rattle.table.proofs.Examples.{record8, tableA, tableB, tableC}
+use Rattle.verdict.specs.declared.Refusal.{Refusal}
+use Rattle.verdict.specs.declared.VerdictAnswer.{VerdictAnswer}
 use Rattle.verdict.specs.Search.{searched, isBreaking}
 use Rattle.verdict.specs.Answers.{verdictOf, rangeCheck}
+use Rattle.verdict.specs.Guarantee.{Guarantee}
+use Rattle.verdict.proofs.Watching.{all-choose}
 
 -- an answer with values, and a buffer of three numbers
 abbrev gives : List ℕ → ℕ → ℕ → ℕ → Lent
@@ -73,3 +85,27 @@ pub empty-table : (verdictOf [] 8 64 2 7 (9 ∷ 9 ∷ 9 ∷ 9 ∷ 9 ∷ 9 ∷ 9 
     × (rangeCheck [] 8 64 2 1 0 0 room ≡ gives [] 9 9 9) × (rangeCheck [] 8 64 2 1 0 1 room ≡ turns 18)
 unfolding searched isBreaking revolving binom breaks countA masked beyond bit upTo xor
 empty-table = (refl, refl, refl)
+
+-- ---- demand 3's clause by itself
+
+-- it refuses holds for `pair` at order 2: the answer of a program that waves pairs through, or answers before it looks at a set
+pub holds-refused : (held : List ℕ) → Guarantee VerdictAnswer.Holds pair 3 1 1 2 held → ⊥
+unfolding breaks countA masked bit upTo xor
+holds-refused held g =
+    no-choice Ni 3 1 (map (wireAt pair) (1 ∷ 2 ∷ [])) refl
+    (g .holds-exactly apart .0 refl (1 ∷ 2 ∷ []) (record { distinct = refl; within = refl; few = le-refl 2 }))
+  where
+    apart : (why : Refusal) → VerdictAnswer.Holds ≡ VerdictAnswer.Refused why → ⊥
+    apart why e = let z : _≡_ {A = ℕ} 0 1 = cc in omega (arith, z)
+
+-- it refuses wire 0 as the set shown
+pub wire-0-refused : Guarantee (VerdictAnswer.Broken 1) pair 3 1 1 2 (0 ∷ 9 ∷ 9 ∷ []) → ⊥
+unfolding searched isBreaking revolving breaks countA masked bit upTo xor
+wire-0-refused g =
+    g .broken-shows 1 refl .no-choice (all-choose pair 3 1 1 1 refl (0 ∷ []) (record { distinct = refl; within = refl; few = le-refl 1 }))
+
+-- and every set for text A, which holds
+pub broken-refused : (size : ℕ) (held : List ℕ) → Guarantee (VerdictAnswer.Broken size) tableA 2 1 1 1 held → ⊥
+unfolding searched isBreaking revolving breaks countA masked bit upTo xor
+broken-refused size held g =
+    let shown = g .broken-shows size refl in shown .no-choice (all-choose tableA 2 1 1 1 refl (take size held) (shown .watched))

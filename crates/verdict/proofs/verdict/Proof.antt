@@ -1,11 +1,20 @@
 -- `verdict::verdict` meets its contract: each refusal where its test is the first to fail, with the buffer as it was, else what the search found.
 -- Assumes nothing.
-use mathlib.Core.Path.{sym, _∙_, ap}
+use Prim.Native.Nat.{ℕ}
+use mathlib.Core.Path.{_≡_, sym, _∙_, ap}
+use mathlib.Core.List.{List}
 use borrow.Author.Needs.{needs}
-use Rattle.verdict.specs.Answers.{openedTold}
-use Rattle.verdict.proofs.Entries.{before, order-low, order-high, no-room, found-none, found-set, short, order-within, size-within}
+use Rattle.verdict.specs.declared.VerdictAnswer.{VerdictAnswer}
+use Rattle.verdict.specs.Answers.{openedTold, verdictTold, verdictOf}
+use Rattle.verdict.specs.Guarantee.{Guarantee}
+use Rattle.verdict.proofs.Entries.{Promise, before, order-low, order-high, no-room, found-none, found-set, short, order-within, size-within}
 use Rattle.verdict.proofs.verdict.Statement.{statement}
 use Rattle.verdict.proofs.verdict.Tie as tie
+
+promised : {answer : VerdictAnswer} {held table : List ℕ} {shares masks notion order : ℕ} {buffer : List ℕ}
+    → Promise answer held table shares masks notion order buffer
+    → (verdictTold answer held ≡ verdictOf table shares masks notion order buffer) × Guarantee answer table shares masks notion order held
+promised p = (p .equation, p .guarantee)
 
 opening-requires : tie.Need-opening-requires
 opening-requires c κs = search needs
@@ -21,25 +30,25 @@ returns c =
     let o = c .before .before in
     let a = o .before .before .before .before .before .args in
     let told = ap openedTold (sym (o .opened2 .given .1)) ∙ o .before .before .opening .ensures in
-    let p = order-low (a .table .now) (a .shares) (a .masks) (a .notion) (a .order) (a .set .now) _ told (c .if1 .taken) in
-    (p .equation, p .guarantee)
+    promised
+    (order-low (a .table .now) (a .shares) (a .masks) (a .notion) (a .order) (a .set .now) _ told (c .if1 .taken))
 
 returns-2 : tie.Need-returns-2
 returns-2 c =
     let o = c .before .before .before in
     let a = o .before .before .before .before .before .args in
     let told = ap openedTold (sym (o .opened2 .given .1)) ∙ o .before .before .opening .ensures in
-    let p = order-high (a .table .now) (a .shares) (a .masks) (a .notion) (a .order) (a .set .now) _ told (c .if2 .taken) in
-    (p .equation, p .guarantee)
+    promised
+    (order-high (a .table .now) (a .shares) (a .masks) (a .notion) (a .order) (a .set .now) _ told (c .if2 .taken))
 
 returns-3 : tie.Need-returns-3
 returns-3 c =
     let o = c .before .before .before .before in
     let a = o .before .before .before .before .before .args in
     let told = ap openedTold (sym (o .opened2 .given .1)) ∙ o .before .before .opening .ensures in
-    let p = no-room (a .table .now) (a .shares) (a .masks) (a .notion) (a .order) (a .set .now) _ told (c .before .before .if1 .left)
-    (c .before .if2 .left) (c .if3 .taken) in
-    (p .equation, p .guarantee)
+    promised
+    (no-room (a .table .now) (a .shares) (a .masks) (a .notion) (a .order) (a .set .now) _ told (c .before .before .if1 .left)
+    (c .before .if2 .left) (c .if3 .taken))
 
 slice-aggregate-first-breaking : tie.Need-slice-aggregate-first-breaking
 slice-aggregate-first-breaking c = search needs
@@ -51,7 +60,8 @@ first-breaking-requires c κs =
     let a = o .before .before .before .before .before .args in
     let told = ap openedTold (sym (o .opened2 .given .1)) ∙ o .before .before .opening .ensures in
     let seven = order-within (a .table .now) (a .shares) (a .masks) (a .notion) _ told (a .order) (t .before .if2 .left) in
-    (short (a .table .now) (a .shares) (a .masks) (a .notion) _ told, seven, seven)
+    let most = short (a .table .now) (a .shares) (a .masks) (a .notion) _ told in
+    search needs
 
 returns-4 : tie.Need-returns-4
 returns-4 c =
@@ -59,9 +69,9 @@ returns-4 c =
     let o = t .before .before .before .before in
     let a = o .before .before .before .before .before .args in
     let told = ap openedTold (sym (o .opened2 .given .1)) ∙ o .before .before .opening .ensures in
-    let p = found-none (a .table .now) (a .shares) (a .masks) (a .notion) (a .order) (a .set .now) _ told (t .before .before .if1 .left)
-    (t .before .if2 .left) (t .if3 .left) _ _ (c .before .before .first-breaking .ensures) (c .if4 .taken) in
-    (p .equation, p .guarantee)
+    promised
+    (found-none (a .table .now) (a .shares) (a .masks) (a .notion) (a .order) (a .set .now) _ told (t .before .before .if1 .left)
+    (t .before .if2 .left) (t .if3 .left) _ _ (c .before .before .first-breaking .ensures) (c .if4 .taken))
 
 sub-write : tie.Need-sub-write
 sub-write c = search needs
@@ -95,8 +105,8 @@ returns-5 : tie.Need-returns-5
 returns-5 c =
     let a = c .before .before .before .before .before .before .args in
     let told = ap openedTold (sym (c .before .opened .given .1)) ∙ c .before .before .before .opening .ensures in
-    let p = before (a .table .now) (a .shares) (a .masks) (a .notion) (a .order) (a .set .now) _ told in
-    (p .equation, p .guarantee)
+    promised
+    (before (a .table .now) (a .shares) (a .masks) (a .notion) (a .order) (a .set .now) _ told)
 
 same-length : tie.Need-same-length
 same-length c = search needs
@@ -107,11 +117,10 @@ returns-6 c =
     let o = t .before .before .before .before in
     let a = o .before .before .before .before .before .args in
     let told = ap openedTold (sym (o .opened2 .given .1)) ∙ o .before .before .opening .ensures in
-    let p =
-    found-set (a .table .now) (a .shares) (a .masks) (a .notion) (a .order) (a .set .now) _ told (t .before .before .if1 .left)
+    promised
+    (found-set (a .table .now) (a .shares) (a .masks) (a .notion) (a .order) (a .set .now) _ told (t .before .before .if1 .left)
     (t .before .if2 .left) (t .if3 .left) _ _ (c .before .before .before .before .before .before .before .before .first-breaking .ensures)
-    (c .before .before .before .before .before .before .if4 .left) _ (c .before .before .write .ensures) in
-    (p .equation, p .guarantee)
+    (c .before .before .before .before .before .before .if4 .left) _ (c .before .before .write .ensures))
 
 pub verdict-spec : {M : Type 1} → statement M
 verdict-spec =
