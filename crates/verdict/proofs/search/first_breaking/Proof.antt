@@ -13,15 +13,15 @@ use Rattle.verdict.proofs.search.first_breaking.Tie as tie
 
 abbrev Inv-loop : tie.InvT-loop
 Inv-loop table notion order probes₀ counts wires found₀ size sets rank₀ probes found rank =
-    (found ≡ 0) × (length probes ≡ length probes₀) × (rank ≤ sets) × RanksClean (isBreaking notion table 8 64) (wireCount table) size rank
+    RanksClean (isBreaking notion table 8 64) (wireCount table) size rank × (found ≡ 0) × (length probes ≡ length probes₀)
 
 abbrev μ-loop : tie.MeasureT-loop
 μ-loop table notion order probes₀ counts wires found₀ size sets rank₀ probes found rank = sets - rank
 
 abbrev Inv-search : tie.InvT-search
 Inv-search table notion order probes₀ counts wires found₀ size₀ probes found size =
-    (found ≡ 0) × (length probes ≡ length probes₀) × (1 ≤ size) × (size ≤ order + 1)
-    × SizesClean (isBreaking notion table 8 64) (wireCount table) size
+    SizesClean (isBreaking notion table 8 64) (wireCount table) size × (found ≡ 0) × (length probes ≡ length probes₀) × (1 ≤ size)
+    × (size ≤ order + 1)
 
 abbrev μ-search : tie.MeasureT-search
 μ-search table notion order probes₀ counts wires found₀ size₀ probes found size = order + 1 - size
@@ -30,13 +30,13 @@ table-requires : tie.Need-table-requires Inv-loop μ-loop Inv-search μ-search
 table-requires c κs = search needs
 
 search-holds : tie.Need-search-holds Inv-loop μ-loop Inv-search μ-search
-search-holds c = (refl, refl, omega arith, omega arith, no-size _ _)
+search-holds c = (no-size _ _, refl, refl, omega arith, omega arith)
 
 count-requires : tie.Need-count-requires Inv-loop μ-loop Inv-search μ-search
 count-requires c κs = search needs
 
 loop-holds : tie.Need-loop-holds Inv-loop μ-loop Inv-search μ-search
-loop-holds c = (c .before .before .before .search .inv .0, refl, omega arith, no-rank _ _ _)
+loop-holds c = (no-rank _ _ _, c .before .before .before .search .inv .1, refl)
 
 rank-breaks-requires : tie.Need-rank-breaks-requires Inv-loop μ-loop Inv-search μ-search
 rank-breaks-requires c κs = search needs
@@ -49,13 +49,9 @@ loop-less c = search needs
 
 loop-again : tie.Need-loop-again Inv-loop μ-loop Inv-search μ-search
 loop-again c =
-    let l = c .before .before .before .before .before .before .before .loop in (
-      l .inv .0,
-      search needs,
-      search needs,
-      next-rank _ _ _ _ (search needs) (l .inv .3)
-          (sym (c .before .before .before .rank-breaks .ensures .0) ∙ c .if1 .left),
-    )
+    let l = c .before .before .before .before .before .before .before .loop in
+    let looked = c .before .before .before .rank-breaks .ensures in
+    (next-rank _ _ _ _ (search needs) (l .inv .0) (sym (looked .0) ∙ c .if1 .left), l .inv .1, search needs)
 
 add-size : tie.Need-add-size Inv-loop μ-loop Inv-search μ-search
 add-size c = search needs
@@ -67,14 +63,14 @@ search-again : tie.Need-search-again Inv-loop μ-loop Inv-search μ-search
 search-again c =
     let l = c .before .before .loop in
     let s = c .before .before .before .before .before .before .search in
-    (l .inv .0, search needs, search needs, search needs, next-size _ _ _ _ (s .inv .4) (l .inv .3) (search needs))
+    (next-size _ _ _ _ (s .inv .0) (l .inv .0) (search needs), l .inv .1, search needs, search needs, search needs)
 
 same-length : tie.Need-same-length Inv-loop μ-loop Inv-search μ-search
 same-length c = search needs
 
 returns : tie.Need-returns Inv-loop μ-loop Inv-search μ-search
 returns c =
-    let s = c .before .search in none-found _ _ _ _ _ _ (s .inv .0) (c .search-test .left) (s .inv .3) (s .inv .4)
+    let s = c .before .search in none-found _ _ _ _ _ _ (s .inv .1) (c .search-test .left) (s .inv .4) (s .inv .0)
 
 same-length-2 : tie.Need-same-length-2 Inv-loop μ-loop Inv-search μ-search
 same-length-2 c = search needs
@@ -84,7 +80,7 @@ returns-2 c =
     let s = c .before .before .before .before .before .before .before .before .before .before .before .search in
     let l = c .before .before .before .before .before .before .before .loop in
     let looked = c .before .before .before .rank-breaks .ensures in
-    set-found _ _ _ _ _ _ _ (s .inv .2) (search needs) (search needs) (s .inv .4) (l .inv .3) (sym (c .if1 .taken) ∙ looked .0) (looked .1)
+    set-found _ _ _ _ _ _ _ (s .inv .3) (search needs) (search needs) (s .inv .0) (l .inv .0) (sym (c .if1 .taken) ∙ looked .0) (looked .1)
 
 same-length-3 : tie.Need-same-length-3 Inv-loop μ-loop Inv-search μ-search
 same-length-3 c = search needs
@@ -93,7 +89,7 @@ returns-3 : tie.Need-returns-3 Inv-loop μ-loop Inv-search μ-search
 returns-3 c =
     let l = c .before .before .loop in
     let s = c .before .before .before .before .before .before .search in
-    none-found _ _ _ _ _ _ (l .inv .0) (search needs) (search needs) (next-size _ _ _ _ (s .inv .4) (l .inv .3) (search needs))
+    none-found _ _ _ _ _ _ (l .inv .1) (search needs) (search needs) (next-size _ _ _ _ (s .inv .0) (l .inv .0) (search needs))
 
 pub first-breaking-spec : {M : Type 1} → statement M
 first-breaking-spec =

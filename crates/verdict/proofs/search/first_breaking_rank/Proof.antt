@@ -12,13 +12,13 @@ use Rattle.verdict.proofs.search.first_breaking_rank.Tie as tie
 
 abbrev Inv-loop : tie.InvT-loop
 Inv-loop table counts notion size from to probes₀ wires rank₀ probes rank =
-    (length probes ≡ length probes₀) × (from ≤ rank) × (rank ≤ to) × RangeClean (isBreaking notion table 8 64) (wireCount table) size from rank
+    RangeClean (isBreaking notion table 8 64) (wireCount table) size from rank × (length probes ≡ length probes₀) × (from ≤ rank) × (rank ≤ to)
 
 abbrev μ-loop : tie.MeasureT-loop
 μ-loop table counts notion size from to probes₀ wires rank₀ probes rank = to - rank
 
 loop-holds : tie.Need-loop-holds Inv-loop μ-loop
-loop-holds c = (refl, search needs, search needs, rank-start _ _ _ _)
+loop-holds c = (rank-start _ _ _ _, refl, search needs, search needs)
 
 rank-breaks-requires : tie.Need-rank-breaks-requires Inv-loop μ-loop
 rank-breaks-requires c κs = search needs
@@ -30,7 +30,7 @@ returns : tie.Need-returns Inv-loop μ-loop
 returns c =
     let l = c .before .before .before .before .before .before .loop in
     let looked = c .before .before .before .rank-breaks .ensures in
-    rank-found _ _ _ _ _ _ _ _ (l .inv .1) (search needs) (search needs) (l .inv .3) (sym (c .if1 .taken) ∙ looked .0) (looked .1)
+    rank-found _ _ _ _ _ _ _ _ (l .inv .2) (search needs) (search needs) (l .inv .0) (sym (c .if1 .taken) ∙ looked .0) (looked .1)
 
 add-rank : tie.Need-add-rank Inv-loop μ-loop
 add-rank c = search needs
@@ -42,14 +42,14 @@ loop-again : tie.Need-loop-again Inv-loop μ-loop
 loop-again c =
     let l = c .before .before .before .before .before .before .loop in
     let looked = c .before .before .before .rank-breaks .ensures in
-    (search needs, search needs, search needs, rank-next _ _ _ _ _ (l .inv .1) (search needs) (l .inv .3) (sym (looked .0) ∙ c .if1 .left))
+    (rank-next _ _ _ _ _ (l .inv .2) (search needs) (l .inv .0) (sym (looked .0) ∙ c .if1 .left), search needs, search needs, search needs)
 
 same-length-2 : tie.Need-same-length-2 Inv-loop μ-loop
 same-length-2 c = search needs
 
 returns-2 : tie.Need-returns-2 Inv-loop μ-loop
 returns-2 c =
-    let l = c .before .loop in rank-none _ _ _ _ _ _ _ (l .inv .1) (l .inv .2) (c .loop-test .left) (l .inv .3)
+    let l = c .before .loop in rank-none _ _ _ _ _ _ _ (l .inv .2) (l .inv .3) (c .loop-test .left) (l .inv .0)
 
 pub first-breaking-rank-spec : {M : Type 1} → statement M
 first-breaking-rank-spec =
