@@ -1,9 +1,12 @@
 -- The answers of the two entries, path by path. Where a test refuses, nothing was written; else the search's result decides.
 --     searched-decided, stretch-decided     the code's test over all bits of a record finds the sets that the gadget's shares and masks give
---     Promise                               the whole of a verdict's promise
+--     opened-for, short                     what the first tests say: the notion, and a table of at most 512 wires
+--     Promise, verdict-answer               the whole of a verdict's promise; its answer after the first tests
 --     before, order-low, order-high, no-room, found-none, found-set     the verdict's answers
---     size-within                           the size that was found is within the order
---     range-before, size-large, range-room, ranks-low, ranks-high, range-clean, range-found     the range check's answers
+--     Passed, bytes, seven, size-within     all tests of a verdict passed: the table's bytes, the order and the size that was found are within limits
+--     range-answer                          a range check's answer after the first tests
+--     range-before, size-large, range-room, ranks-low, ranks-high, range-clean, range-found     its answers
+--     PassedRange, range-bytes              all tests of a range check passed
 use Prim.Native.Nat.{ℕ, suc, _-_, _%_, _≤_, _<_}
 use native.Mathlib.Omega.{arith}
 use mathlib.Core.Path.{_≡_, refl, sym, _∙_, ap, ap₂}
@@ -75,9 +78,6 @@ module _ (table : List ℕ) (shares masks notion : ℕ) (kind : Notion) (told : 
   pub short : length table ≤ 12288
   short = ltb-false 12288 (length table) (or-none (not (eqb (length table % 24) 0)) (ltb 12288 (length table)) (opened-for .sound .goodLength) .1)
 
-  pub order-within : (order : ℕ) → order < shares → order ≤ 7
-  order-within order h = omega (arith, shares-high table shares masks (opened-for .sound))
-
 -- ---- the verdict
 
 pub record Promise (answer : VerdictAnswer) (held table : List ℕ) (shares masks notion order : ℕ) (buffer : List ℕ) : Type 0 where
@@ -113,60 +113,76 @@ module _ (table : List ℕ) (shares masks notion order : ℕ) (buffer : List ℕ
     pub order-high : shares ≤ order → Promise (VerdictAnswer.Refused OrderOutOfRange) buffer table shares masks notion order buffer
     order-high h = turned OrderOutOfRange (simp (le-ltb order shares h, and-false (leb 1 order)))
 
-    module _ (low : 1 ≤ order) (high : order < shares) where
-      pub no-room : length buffer < order → Promise (VerdictAnswer.Refused BufferTooShort) buffer table shares masks notion order buffer
-      no-room h = turned BufferTooShort (simp (le-leb 1 order low, lt-ltb order shares high, lt-ltb (length buffer) order h))
+    pub no-room : 1 ≤ order → order < shares → length buffer < order
+        → Promise (VerdictAnswer.Refused BufferTooShort) buffer table shares masks notion order buffer
+    no-room low high h = turned BufferTooShort (simp (le-leb 1 order low, lt-ltb order shares high, lt-ltb (length buffer) order h))
 
-      module _ (room : order ≤ length buffer) (size : ℕ) (probes : List ℕ)
-          (search : FirstSet (isBreaking kind table 8 64) (searched (wireCount table) order) size probes) where
-        abbrev sets : List (List ℕ)
-        sets = keep (isBreaking (notionOf notion) table shares masks) (searched (wireCount table) order)
+-- the tests of a verdict that lets the search begin
+pub record Passed (table : List ℕ) (shares masks notion order : ℕ) (buffer : List ℕ) (kind : Notion) : Type 0 where
+  pub told : openedTold (Opened.For kind) ≡ opens table shares masks notion
+  pub low : 1 ≤ order
+  pub high : order < shares
+  pub room : order ≤ length buffer
 
-        same : keep (isBreaking kind table 8 64) (searched (wireCount table) order) ≡ sets
-        same = searched-decided table shares masks notion kind (opened-for table shares masks notion kind told) order
+module _ (table : List ℕ) (shares masks notion order : ℕ) (buffer : List ℕ) (kind : Notion)
+    (p : Passed table shares masks notion order buffer kind) where
+  pub bytes : length table ≤ 12288
+  bytes = short table shares masks notion kind (p .told)
 
-        shows : firstShown sets buffer ≡ verdict-answer
-        shows = simp (le-leb 1 order low, lt-ltb order shares high, le-ltb (length buffer) order room)
+  pub seven : order ≤ 7
+  seven = omega (arith, p .high, shares-high table shares masks (opened-for table shares masks notion kind (p .told) .sound))
 
-        long : size ≡ length (first sets)
-        long = search .size-is ∙ ap (λ (l : List (List ℕ)). length (first l)) same
+  module _ (size : ℕ) (probes : List ℕ) (search : FirstSet (isBreaking kind table 8 64) (searched (wireCount table) order) size probes) where
+    abbrev sets : List (List ℕ)
+    sets = keep (isBreaking (notionOf notion) table shares masks) (searched (wireCount table) order)
 
-        front : take size probes ≡ first sets
-        front = search .set-is ∙ ap first same
+    same : keep (isBreaking kind table 8 64) (searched (wireCount table) order) ≡ sets
+    same = searched-decided table shares masks notion kind (opened-for table shares masks notion kind (p .told)) order
 
-        pub size-within : size ≤ order
-        size-within = go sets refl long
-          where
-            go : (l : List (List ℕ)) → sets ≡ l → size ≡ length (first l) → size ≤ order
-            go [] e p = omega arith
-            go (s ∷ later) e p = omega (arith, shown-none table shares masks notion order s later e .1 .few)
+    shows : firstShown sets buffer ≡ verdict-answer table shares masks notion order buffer
+    shows = simp (le-leb 1 order (p .low), lt-ltb order shares (p .high), le-ltb (length buffer) order (p .room))
 
-        pub found-none : size ≡ 0 → Promise VerdictAnswer.Holds buffer table shares masks notion order buffer
-        found-none nil = go sets refl long
-          where
-            go : (l : List (List ℕ)) → sets ≡ l → size ≡ length (first l) → Promise VerdictAnswer.Holds buffer table shares masks notion order buffer
-            go [] e p = record {
-              equation = ap (λ (l : List (List ℕ)). firstShown l buffer) (sym e) ∙ shows ∙ sym own-answer;
-              guarantee = holds table shares masks notion order buffer e;
-            }
-            go (s ∷ later) e p = let z : ⊥ = omega (arith, shown-none table shares masks notion order s later e .0) in absurd z
+    long : size ≡ length (first sets)
+    long = search .size-is ∙ ap (λ (l : List (List ℕ)). length (first l)) same
 
-        pub found-set : (size ≡ 0 → ⊥) → (held : List ℕ) → held ≡ written (take (size - 0) probes) buffer
+    front : take size probes ≡ first sets
+    front = search .set-is ∙ ap first same
+
+    pub size-within : size ≤ order
+    size-within = go sets refl long
+      where
+        go : (l : List (List ℕ)) → sets ≡ l → size ≡ length (first l) → size ≤ order
+        go [] e k = omega arith
+        go (s ∷ later) e k = omega (arith, shown-none table shares masks notion order s later e .1 .few)
+
+    pub found-none : size ≡ 0 → Promise VerdictAnswer.Holds buffer table shares masks notion order buffer
+    found-none nil = go sets refl long
+      where
+        go : (l : List (List ℕ)) → sets ≡ l → size ≡ length (first l) → Promise VerdictAnswer.Holds buffer table shares masks notion order buffer
+        go [] e k = record {
+          equation = ap (λ (l : List (List ℕ)). firstShown l buffer) (sym e) ∙ shows
+              ∙ sym (own-answer table shares masks notion order buffer kind (p .told));
+          guarantee = holds table shares masks notion order buffer e;
+        }
+        go (s ∷ later) e k = let z : ⊥ = omega (arith, shown-none table shares masks notion order s later e .0) in absurd z
+
+    pub found-set : (size ≡ 0 → ⊥) → (held : List ℕ) → held ≡ written (take (size - 0) probes) buffer
+        → Promise (VerdictAnswer.Broken size) held table shares masks notion order buffer
+    found-set some held wrote = go sets refl long front
+      where
+        go : (l : List (List ℕ)) → sets ≡ l → size ≡ length (first l) → take size probes ≡ first l
             → Promise (VerdictAnswer.Broken size) held table shares masks notion order buffer
-        found-set some held wrote = go sets refl long front
-          where
-            go : (l : List (List ℕ)) → sets ≡ l → size ≡ length (first l) → take size probes ≡ first l
-                → Promise (VerdictAnswer.Broken size) held table shares masks notion order buffer
-            go [] e p q = absurd (some p)
-            go (s ∷ later) e p q =
-                let all : size - 0 ≡ size = omega arith in
-                let copied : held ≡ written s buffer =
-                wrote ∙ ap (λ (l : List ℕ). written l buffer) (ap (λ (i : ℕ). take i probes) all ∙ q) in record {
-                  equation = ap₂ (λ (k : ℕ) (l : List ℕ). record { told = values (k ∷ []); held = l }) p copied
-                      ∙ ap (λ (l : List (List ℕ)). firstShown l buffer) (sym e) ∙ shows ∙ sym own-answer;
-                  guarantee = broken table shares masks notion order size held s later e p
-                      (ap₂ {C = List ℕ} take p copied ∙ take-at s (drop (length s) buffer) (length s) refl);
-                }
+        go [] e k q = absurd (some k)
+        go (s ∷ later) e k q =
+            let all : size - 0 ≡ size = omega arith in
+            let copied : held ≡ written s buffer =
+            wrote ∙ ap (λ (l : List ℕ). written l buffer) (ap (λ (i : ℕ). take i probes) all ∙ q) in record {
+              equation = ap₂ (λ (k : ℕ) (l : List ℕ). record { told = values (k ∷ []); held = l }) k copied
+                  ∙ ap (λ (l : List (List ℕ)). firstShown l buffer) (sym e) ∙ shows
+                  ∙ sym (own-answer table shares masks notion order buffer kind (p .told));
+              guarantee = broken table shares masks notion order size held s later e k
+                  (ap₂ {C = List ℕ} take k copied ∙ take-at s (drop (length s) buffer) (length s) refl);
+            }
 
 -- ---- the range check
 
@@ -212,38 +228,61 @@ module _ (table : List ℕ) (shares masks notion size from to : ℕ) (buffer : L
             simp (le-ltb 7 size small, le-ltb (length buffer) size room, le-leb from to rises, lt-leb to all h) in
             e ∙ own-range
 
-        module _ (rises : from ≤ to) (ends : to ≤ all) (rank : ℕ) (probes : List ℕ)
-            (search : FirstRank (isBreaking kind table 8 64) (wireCount table) size from to rank probes) where
-          abbrev ranked : List (List ℕ)
-          ranked = keep (isBreaking (notionOf notion) table shares masks) (stretch (wireCount table) size from to)
+-- the tests of a range check that lets the search begin
+pub record PassedRange (table : List ℕ) (shares masks notion size from to : ℕ) (buffer : List ℕ) (kind : Notion) : Type 0 where
+  pub told : openedTold (Opened.For kind) ≡ opens table shares masks notion
+  pub small : size ≤ 7
+  pub room : size ≤ length buffer
+  pub rises : from ≤ to
+  pub ends : to ≤ binom (wireCount table) size
 
-          same-sets : keep (isBreaking kind table 8 64) (stretch (wireCount table) size from to) ≡ ranked
-          same-sets = stretch-decided table shares masks notion kind (opened-for table shares masks notion kind told) size from to
+pub range-bytes : (table : List ℕ) (shares masks notion size from to : ℕ) (buffer : List ℕ) (kind : Notion)
+    → PassedRange table shares masks notion size from to buffer kind → length table ≤ 12288
+range-bytes table shares masks notion size from to buffer kind p = short table shares masks notion kind (p .told)
 
-          shows-first : firstRanked (wireCount table) ranked buffer ≡ range-answer
-          shows-first = simp (le-ltb 7 size small, le-ltb (length buffer) size room, le-leb from to rises, le-leb to all ends)
+module _ (table : List ℕ) (shares masks notion size from to : ℕ) (buffer : List ℕ) (kind : Notion)
+    (p : PassedRange table shares masks notion size from to buffer kind) (rank : ℕ) (probes : List ℕ)
+    (search : FirstRank (isBreaking kind table 8 64) (wireCount table) size from to rank probes) where
+  abbrev result : Lent
+  result = rangeCheck table shares masks notion size from to buffer
 
-          decides : (l : List (List ℕ)) → ranked ≡ l → firstRanked (wireCount table) l buffer ≡ asked
-          decides l e = ap (λ (l : List (List ℕ)). firstRanked (wireCount table) l buffer) (sym e) ∙ shows-first ∙ own-range
+  abbrev ranked : List (List ℕ)
+  ranked = keep (isBreaking (notionOf notion) table shares masks) (stretch (wireCount table) size from to)
 
-          pub range-clean : to ≤ rank → rangeTold RangeAnswer.Clean buffer ≡ asked
-          range-clean h =
-              let last : to ≡ rank = omega (arith, search .high) in
-              decides [] (sym same-sets ∙ ap (λ (k : ℕ). keep (isBreaking kind table 8 64) (stretch (wireCount table) size from k)) last
-              ∙ search .clean)
+  same-sets : keep (isBreaking kind table 8 64) (stretch (wireCount table) size from to) ≡ ranked
+  same-sets = stretch-decided table shares masks notion kind (opened-for table shares masks notion kind (p .told)) size from to
 
-          pub range-found : rank < to → (held : List ℕ) → held ≡ written (take (size - 0) probes) buffer
-              → rangeTold (RangeAnswer.Found size rank) held ≡ asked
-          range-found h held wrote =
-              let n = wireCount table in
-              let set = setAt n size rank in
-              let found = search .found h in
-              let counted : rank < all = omega arith in
-              let first = rank-first (isBreaking kind table 8 64) n size from rank to (search .low) h ends (search .clean) (found .0) in
-              let all-of-it : size - 0 ≡ size = omega arith in
-              let long : size ≡ length set = sym (isSet-parts n size set (set-at-is-set n size rank counted) .0) in
-              let copied : held ≡ written set buffer =
-              wrote ∙ ap (λ (l : List ℕ). written l buffer) (ap (λ (i : ℕ). take i probes) all-of-it ∙ found .1) in
-              ap₂ (λ (k : ℕ) (l : List ℕ). record { told = values (k ∷ rank ∷ []); held = l }) long copied
-              ∙ ap (λ (r : ℕ). record { told = values (length set ∷ r ∷ []); held = written set buffer }) (sym (rank-of-set n size rank counted))
-              ∙ decides (set ∷ first .0) (sym same-sets ∙ first .1)
+  shows-first : firstRanked (wireCount table) ranked buffer ≡ range-answer table shares masks notion size from to buffer
+  shows-first = simp (
+    le-ltb 7 size (p .small),
+    le-ltb (length buffer) size (p .room),
+    le-leb from to (p .rises),
+    le-leb to
+        (binom (wireCount table) size) (p .ends),
+  )
+
+  decides : (l : List (List ℕ)) → ranked ≡ l → firstRanked (wireCount table) l buffer ≡ result
+  decides l e = ap (λ (l : List (List ℕ)). firstRanked (wireCount table) l buffer) (sym e) ∙ shows-first
+      ∙ own-range table shares masks notion size from to buffer kind (p .told)
+
+  pub range-clean : to ≤ rank → rangeTold RangeAnswer.Clean buffer ≡ result
+  range-clean h =
+      let last : to ≡ rank = omega (arith, search .high) in
+      decides [] (sym same-sets ∙ ap (λ (k : ℕ). keep (isBreaking kind table 8 64) (stretch (wireCount table) size from k)) last
+      ∙ search .clean)
+
+  pub range-found : rank < to → (held : List ℕ) → held ≡ written (take (size - 0) probes) buffer
+      → rangeTold (RangeAnswer.Found size rank) held ≡ result
+  range-found h held wrote =
+      let n = wireCount table in
+      let set = setAt n size rank in
+      let found = search .found h in
+      let counted : rank < binom (wireCount table) size = omega (arith, p .ends) in
+      let first = rank-first (isBreaking kind table 8 64) n size from rank to (search .low) h (p .ends) (search .clean) (found .0) in
+      let all-of-it : size - 0 ≡ size = omega arith in
+      let long : size ≡ length set = sym (isSet-parts n size set (set-at-is-set n size rank counted) .0) in
+      let copied : held ≡ written set buffer =
+      wrote ∙ ap (λ (l : List ℕ). written l buffer) (ap (λ (i : ℕ). take i probes) all-of-it ∙ found .1) in
+      ap₂ (λ (k : ℕ) (l : List ℕ). record { told = values (k ∷ rank ∷ []); held = l }) long copied
+      ∙ ap (λ (r : ℕ). record { told = values (length set ∷ r ∷ []); held = written set buffer }) (sym (rank-of-set n size rank counted))
+      ∙ decides (set ∷ first .0) (sym same-sets ∙ first .1)

@@ -2,6 +2,7 @@
 --     jobs-clean        every job of a size is clean exactly when no set of the size breaks
 --     jobs-either       every job is clean, or a job finds a set and those before it are clean
 --     jobs-first        then what is found first over the jobs is the first breaking set of the size, with its rank
+--     CleanBelow        every size from 1 up to, without, one is clean
 --     verdict-clean     a verdict holds exactly when all jobs of all sizes up to the order are clean
 --     verdict-first     else it shows what the jobs of the first size that is not clean find first
 use Prim.Native.Nat.{ℕ, zero, suc, _≤_, _<_}

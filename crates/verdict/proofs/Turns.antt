@@ -1,10 +1,14 @@
 -- The turns of the search's loops, over plain numbers and lists.
+--     below-inside, set-inside     a set of a table's wires is inside the table
 --     looked-inside, looked        the set that was unranked into a buffer: its wires are the table's; what the test says of it
+--     searched-none, searched-suc  the sets of sizes up to 0, and up to one more
 --     SizesClean, RanksClean       nothing found in the sizes below, and in the ranks below
 --     no-size, no-rank             at the start
 --     next-rank, next-size         after a turn
+--     first-of-size                what is found first in a size is found first
 --     none-found, set-found        the search's result, where nothing was found and where a set was
---     rank-next, rank-found, rank-none     the same for the ranks of a range
+--     RangeClean, rank-start, rank-next, rank-found, rank-none     the same for the ranks of a range
+--     rank-first                   what is found first in a range
 use Prim.Native.Nat.{ℕ, zero, suc, _+_, _-_, _≤_, _<_}
 use native.Mathlib.Nat.{le-of-suc-le-suc, eq-or-lt-of-le, not-suc-le-zero}
 use native.Mathlib.Omega.{arith}

@@ -8,6 +8,7 @@
 --     opened                     the tests of a table and of the notion, then what the operation itself answers
 --     openedTold, opens          what these tests tell by themselves
 --     written                    a set at the start of a buffer
+--     firstShown, firstRanked    the answer that shows the first of a list of sets, without its rank and with it
 --     verdictOf, rangeCheck      what each entry is to tell, and what the buffer is to hold
 use Prim.Native.Nat.{ℕ}
 use mathlib.Core.Bool.{Bool, cond, not, _&&_, _||_}

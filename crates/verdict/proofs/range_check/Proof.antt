@@ -1,12 +1,36 @@
--- `verdict::range_check` meets its contract: each refusal where its test is the first to fail, with the buffer as it was, else what the search found.
--- Assumes nothing.
+-- `verdict::range_check` meets its contract: each refusal where its test is the first to fail, with the buffer as it was, else what the search
+-- found. Assumes nothing.
 use native.Mathlib.Omega.{arith}
-use mathlib.Core.Path.{sym, _∙_, ap}
+use mathlib.Core.Path.{_≡_, sym, _∙_, ap}
 use borrow.Author.Needs.{needs}
-use Rattle.verdict.specs.Answers.{openedTold}
-use Rattle.verdict.proofs.Entries.{short, range-before, size-large, range-room, ranks-low, ranks-high, range-clean, range-found}
+use Rattle.wires.specs.declared.Notion.{Notion}
+use Rattle.verdict.specs.declared.Opened.{Opened}
+use Rattle.verdict.specs.Answers.{openedTold, opens}
+use Rattle.verdict.proofs.Entries.{PassedRange, short, range-bytes, range-before, size-large, range-room, ranks-low, ranks-high, range-clean, range-found}
 use Rattle.verdict.proofs.range_check.Statement.{statement}
 use Rattle.verdict.proofs.range_check.Tie as tie
+
+-- the notion, where the first tests passed
+abbrev kind : tie.After-opened2 → Notion
+kind o = o .opened2 .given .0 .0
+
+told : (o : tie.After-opened2) → let a = o .before .before .before .before .before .args in
+    openedTold (Opened.For (kind o)) ≡ opens (a .table .now) (a .shares) (a .masks) (a .notion)
+told o = ap openedTold (sym (o .opened2 .given .1)) ∙ o .before .before .opening .ensures
+
+-- all tests passed
+passed : (e : tie.Else4) → let o = e .before .before .before .before .before .before .before .before in
+    let a = o .before .before .before .before .before .args in
+    PassedRange (a .table .now) (a .shares) (a .masks) (a .notion) (a .size) (a .from) (a .to) (a .set .now) (kind o)
+passed e =
+    let t = e .before .before .before .before .before in
+    let all = e .before .before .count .ensures in record {
+      told = told (t .before .before .before);
+      small = t .before .if1 .left;
+      room = t .if2 .left;
+      rises = e .before .if3 .left;
+      ends = omega (arith, all, e .if4 .left);
+    }
 
 opening-requires : tie.Need-opening-requires
 opening-requires c κs = search needs
@@ -21,15 +45,13 @@ returns : tie.Need-returns
 returns c =
     let o = c .before .before in
     let a = o .before .before .before .before .before .args in
-    let told = ap openedTold (sym (o .opened2 .given .1)) ∙ o .before .before .opening .ensures in
-    size-large (a .table .now) (a .shares) (a .masks) (a .notion) (a .size) (a .from) (a .to) (a .set .now) _ told (c .if1 .taken)
+    size-large (a .table .now) (a .shares) (a .masks) (a .notion) (a .size) (a .from) (a .to) (a .set .now) (kind o) (told o) (c .if1 .taken)
 
 returns-2 : tie.Need-returns-2
 returns-2 c =
     let o = c .before .before .before in
     let a = o .before .before .before .before .before .args in
-    let told = ap openedTold (sym (o .opened2 .given .1)) ∙ o .before .before .opening .ensures in
-    range-room (a .table .now) (a .shares) (a .masks) (a .notion) (a .size) (a .from) (a .to) (a .set .now) _ told (c .before .if1 .left)
+    range-room (a .table .now) (a .shares) (a .masks) (a .notion) (a .size) (a .from) (a .to) (a .set .now) (kind o) (told o) (c .before .if1 .left)
     (c .if2 .taken)
 
 table-requires : tie.Need-table-requires
@@ -37,11 +59,9 @@ table-requires c κs = search needs
 
 count-requires : tie.Need-count-requires
 count-requires c κs =
-    let t = c .before .before in
-    let o = t .before .before .before in
+    let o = c .before .before .before .before .before in
     let a = o .before .before .before .before .before .args in
-    let told = ap openedTold (sym (o .opened2 .given .1)) ∙ o .before .before .opening .ensures in
-    let most = short (a .table .now) (a .shares) (a .masks) (a .notion) _ told in
+    let most = short (a .table .now) (a .shares) (a .masks) (a .notion) (kind o) (told o) in
     search needs
 
 returns-3 : tie.Need-returns-3
@@ -49,8 +69,7 @@ returns-3 c =
     let t = c .before .before .before .before in
     let o = t .before .before .before in
     let a = o .before .before .before .before .before .args in
-    let told = ap openedTold (sym (o .opened2 .given .1)) ∙ o .before .before .opening .ensures in
-    ranks-low (a .table .now) (a .shares) (a .masks) (a .notion) (a .size) (a .from) (a .to) (a .set .now) _ told (t .before .if1 .left)
+    ranks-low (a .table .now) (a .shares) (a .masks) (a .notion) (a .size) (a .from) (a .to) (a .set .now) (kind o) (told o) (t .before .if1 .left)
     (t .if2 .left) (c .if3 .taken)
 
 returns-4 : tie.Need-returns-4
@@ -58,35 +77,22 @@ returns-4 c =
     let t = c .before .before .before .before .before in
     let o = t .before .before .before in
     let a = o .before .before .before .before .before .args in
-    let told = ap openedTold (sym (o .opened2 .given .1)) ∙ o .before .before .opening .ensures in
-    let all = c .before .before .count .ensures in
-    ranks-high (a .table .now) (a .shares) (a .masks) (a .notion) (a .size) (a .from) (a .to) (a .set .now) _ told (t .before .if1 .left)
-    (t .if2 .left) (c .before .if3 .left) (omega (arith, all, c .if4 .taken))
+    ranks-high (a .table .now) (a .shares) (a .masks) (a .notion) (a .size) (a .from) (a .to) (a .set .now) (kind o) (told o) (t .before .if1 .left)
+    (t .if2 .left) (c .before .if3 .left)
+    (omega (arith, c .before .before .count .ensures, c .if4 .taken))
 
 slice-aggregate-first-breaking-rank : tie.Need-slice-aggregate-first-breaking-rank
 slice-aggregate-first-breaking-rank c = search needs
 
 first-breaking-rank-requires : tie.Need-first-breaking-rank-requires
 first-breaking-rank-requires c κs =
-    let t = c .before .before .before .before .before .before .before in
-    let o = t .before .before .before in
-    let a = o .before .before .before .before .before .args in
-    let told = ap openedTold (sym (o .opened2 .given .1)) ∙ o .before .before .opening .ensures in
-    let most = short (a .table .now) (a .shares) (a .masks) (a .notion) _ told in
-    let all = c .before .before .before .before .count .ensures in
-    (search needs, (most, search needs, search needs, search needs, omega (arith, all, c .before .before .if4 .left)))
+    let p = passed (c .before .before) in
+    (search needs, (range-bytes _ _ _ _ _ _ _ _ _ p, search needs, search needs, search needs, p .ends))
 
 returns-5 : tie.Need-returns-5
 returns-5 c =
-    let e = c .before .before .before .before .before in
-    let t = e .before .before .before .before .before in
-    let o = t .before .before .before in
-    let a = o .before .before .before .before .before .args in
-    let told = ap openedTold (sym (o .opened2 .given .1)) ∙ o .before .before .opening .ensures in
-    let all = e .before .before .count .ensures in
-    range-clean (a .table .now) (a .shares) (a .masks) (a .notion) (a .size) (a .from) (a .to) (a .set .now) _ told (t .before .if1 .left)
-    (t .if2 .left) (e .before .if3 .left)
-    (omega (arith, all, e .if4 .left)) _ _ (c .before .before .first-breaking-rank .ensures) (c .if5 .taken)
+    range-clean _ _ _ _ _ _ _ _ _ (passed (c .before .before .before .before .before)) _ _ (c .before .before .first-breaking-rank .ensures)
+    (c .if5 .taken)
 
 sub-write : tie.Need-sub-write
 sub-write c = search needs
@@ -111,16 +117,9 @@ same-length c = search needs
 
 returns-7 : tie.Need-returns-7
 returns-7 c =
-    let e = c .before .before .before .before .before .before .before .before .before .before .before in
-    let t = e .before .before .before .before .before in
-    let o = t .before .before .before in
-    let a = o .before .before .before .before .before .args in
-    let told = ap openedTold (sym (o .opened2 .given .1)) ∙ o .before .before .opening .ensures in
-    let all = e .before .before .count .ensures in
-    range-found (a .table .now) (a .shares) (a .masks) (a .notion) (a .size) (a .from) (a .to) (a .set .now) _ told (t .before .if1 .left)
-    (t .if2 .left) (e .before .if3 .left)
-    (omega (arith, all, e .if4 .left)) _ _ (c .before .before .before .before .before .before .before .before .first-breaking-rank .ensures)
-    (c .before .before .before .before .before .before .if5 .left) _
+    let q = c .before .before .before .before .before .before in
+    range-found _ _ _ _ _ _ _ _ _ (passed (q .before .before .before .before .before)) _ _ (q .before .before .first-breaking-rank .ensures)
+    (q .if5 .left) _
     (c .before .before .write .ensures)
 
 pub range-check-spec : {M : Type 1} → statement M

@@ -4,10 +4,12 @@ use Prim.Native.Nat.{ℕ}
 use mathlib.Core.Path.{_≡_, sym, _∙_, ap}
 use mathlib.Core.List.{List}
 use borrow.Author.Needs.{needs}
+use Rattle.wires.specs.declared.Notion.{Notion}
+use Rattle.verdict.specs.declared.Opened.{Opened}
 use Rattle.verdict.specs.declared.VerdictAnswer.{VerdictAnswer}
-use Rattle.verdict.specs.Answers.{openedTold, verdictTold, verdictOf}
+use Rattle.verdict.specs.Answers.{openedTold, opens, verdictTold, verdictOf}
 use Rattle.verdict.specs.Guarantee.{Guarantee}
-use Rattle.verdict.proofs.Entries.{Promise, before, order-low, order-high, no-room, found-none, found-set, short, order-within, size-within}
+use Rattle.verdict.proofs.Entries.{Promise, Passed, before, order-low, order-high, no-room, found-none, found-set, bytes, seven, size-within}
 use Rattle.verdict.proofs.verdict.Statement.{statement}
 use Rattle.verdict.proofs.verdict.Tie as tie
 
@@ -15,6 +17,20 @@ promised : {answer : VerdictAnswer} {held table : List ℕ} {shares masks notion
     → Promise answer held table shares masks notion order buffer
     → (verdictTold answer held ≡ verdictOf table shares masks notion order buffer) × Guarantee answer table shares masks notion order held
 promised p = (p .equation, p .guarantee)
+
+-- the notion, where the first tests passed
+abbrev kind : tie.After-opened2 → Notion
+kind o = o .opened2 .given .0 .0
+
+told : (o : tie.After-opened2) → let a = o .before .before .before .before .before .args in
+    openedTold (Opened.For (kind o)) ≡ opens (a .table .now) (a .shares) (a .masks) (a .notion)
+told o = ap openedTold (sym (o .opened2 .given .1)) ∙ o .before .before .opening .ensures
+
+-- all tests passed
+passed : (t : tie.Else3) → let o = t .before .before .before .before in let a = o .before .before .before .before .before .args in
+    Passed (a .table .now) (a .shares) (a .masks) (a .notion) (a .order) (a .set .now) (kind o)
+passed t =
+    record { told = told (t .before .before .before .before); low = t .before .before .if1 .left; high = t .before .if2 .left; room = t .if3 .left }
 
 opening-requires : tie.Need-opening-requires
 opening-requires c κs = search needs
@@ -29,25 +45,19 @@ returns : tie.Need-returns
 returns c =
     let o = c .before .before in
     let a = o .before .before .before .before .before .args in
-    let told = ap openedTold (sym (o .opened2 .given .1)) ∙ o .before .before .opening .ensures in
-    promised
-    (order-low (a .table .now) (a .shares) (a .masks) (a .notion) (a .order) (a .set .now) _ told (c .if1 .taken))
+    promised (order-low (a .table .now) (a .shares) (a .masks) (a .notion) (a .order) (a .set .now) (kind o) (told o) (c .if1 .taken))
 
 returns-2 : tie.Need-returns-2
 returns-2 c =
     let o = c .before .before .before in
     let a = o .before .before .before .before .before .args in
-    let told = ap openedTold (sym (o .opened2 .given .1)) ∙ o .before .before .opening .ensures in
-    promised
-    (order-high (a .table .now) (a .shares) (a .masks) (a .notion) (a .order) (a .set .now) _ told (c .if2 .taken))
+    promised (order-high (a .table .now) (a .shares) (a .masks) (a .notion) (a .order) (a .set .now) (kind o) (told o) (c .if2 .taken))
 
 returns-3 : tie.Need-returns-3
 returns-3 c =
     let o = c .before .before .before .before in
     let a = o .before .before .before .before .before .args in
-    let told = ap openedTold (sym (o .opened2 .given .1)) ∙ o .before .before .opening .ensures in
-    promised
-    (no-room (a .table .now) (a .shares) (a .masks) (a .notion) (a .order) (a .set .now) _ told (c .before .before .if1 .left)
+    promised (no-room (a .table .now) (a .shares) (a .masks) (a .notion) (a .order) (a .set .now) (kind o) (told o) (c .before .before .if1 .left)
     (c .before .if2 .left) (c .if3 .taken))
 
 slice-aggregate-first-breaking : tie.Need-slice-aggregate-first-breaking
@@ -55,23 +65,14 @@ slice-aggregate-first-breaking c = search needs
 
 first-breaking-requires : tie.Need-first-breaking-requires
 first-breaking-requires c κs =
-    let t = c .before in
-    let o = t .before .before .before .before in
-    let a = o .before .before .before .before .before .args in
-    let told = ap openedTold (sym (o .opened2 .given .1)) ∙ o .before .before .opening .ensures in
-    let seven = order-within (a .table .now) (a .shares) (a .masks) (a .notion) _ told (a .order) (t .before .if2 .left) in
-    let most = short (a .table .now) (a .shares) (a .masks) (a .notion) _ told in
+    let p = passed (c .before) in
+    let most = bytes _ _ _ _ _ _ _ p in
+    let few = seven _ _ _ _ _ _ _ p in
     search needs
 
 returns-4 : tie.Need-returns-4
 returns-4 c =
-    let t = c .before .before .before .before in
-    let o = t .before .before .before .before in
-    let a = o .before .before .before .before .before .args in
-    let told = ap openedTold (sym (o .opened2 .given .1)) ∙ o .before .before .opening .ensures in
-    promised
-    (found-none (a .table .now) (a .shares) (a .masks) (a .notion) (a .order) (a .set .now) _ told (t .before .before .if1 .left)
-    (t .before .if2 .left) (t .if3 .left) _ _ (c .before .before .first-breaking .ensures) (c .if4 .taken))
+    promised (found-none _ _ _ _ _ _ _ (passed (c .before .before .before .before)) _ _ (c .before .before .first-breaking .ensures) (c .if4 .taken))
 
 sub-write : tie.Need-sub-write
 sub-write c = search needs
@@ -81,46 +82,33 @@ part-write-start c = search needs
 
 part-write-end : tie.Need-part-write-end
 part-write-end c =
-    let t = c .before .before .before .before .before in
-    let o = t .before .before .before .before in
-    let a = o .before .before .before .before .before .args in
-    let told = ap openedTold (sym (o .opened2 .given .1)) ∙ o .before .before .opening .ensures in
-    let most = size-within (a .table .now) (a .shares) (a .masks) (a .notion) (a .order) (a .set .now) _ told (t .before .before .if1 .left)
-    (t .before .if2 .left) (t .if3 .left) _ _ (c .before .before .before .first-breaking .ensures) in
-    let seven = order-within (a .table .now) (a .shares) (a .masks) (a .notion) _ told (a .order) (t .before .if2 .left) in
+    let p = passed (c .before .before .before .before .before) in
+    let most = size-within _ _ _ _ _ _ _ p _ _ (c .before .before .before .first-breaking .ensures) in
+    let few = seven _ _ _ _ _ _ _ p in
     search needs
 
 write-requires : tie.Need-write-requires
 write-requires c κs =
-    let t = c .before .before .before .before .before .before .before in
-    let o = t .before .before .before .before in
-    let a = o .before .before .before .before .before .args in
-    let told = ap openedTold (sym (o .opened2 .given .1)) ∙ o .before .before .opening .ensures in
-    let most = size-within (a .table .now) (a .shares) (a .masks) (a .notion) (a .order) (a .set .now) _ told (t .before .before .if1 .left)
-    (t .before .if2 .left) (t .if3 .left) _ _ (c .before .before .before .before .before .first-breaking .ensures) in
-    let seven = order-within (a .table .now) (a .shares) (a .masks) (a .notion) _ told (a .order) (t .before .if2 .left) in
+    let p = passed (c .before .before .before .before .before .before .before) in
+    let most = size-within _ _ _ _ _ _ _ p _ _ (c .before .before .before .before .before .first-breaking .ensures) in
+    let few = seven _ _ _ _ _ _ _ p in
     search needs
 
 returns-5 : tie.Need-returns-5
 returns-5 c =
     let a = c .before .before .before .before .before .before .args in
-    let told = ap openedTold (sym (c .before .opened .given .1)) ∙ c .before .before .before .opening .ensures in
-    promised
-    (before (a .table .now) (a .shares) (a .masks) (a .notion) (a .order) (a .set .now) _ told)
+    promised (before (a .table .now) (a .shares) (a .masks) (a .notion) (a .order) (a .set .now) _
+    (ap openedTold (sym (c .before .opened .given .1)) ∙ c .before .before .before .opening .ensures))
 
 same-length : tie.Need-same-length
 same-length c = search needs
 
 returns-6 : tie.Need-returns-6
 returns-6 c =
-    let t = c .before .before .before .before .before .before .before .before .before .before in
-    let o = t .before .before .before .before in
-    let a = o .before .before .before .before .before .args in
-    let told = ap openedTold (sym (o .opened2 .given .1)) ∙ o .before .before .opening .ensures in
+    let q = c .before .before .before .before .before .before in
     promised
-    (found-set (a .table .now) (a .shares) (a .masks) (a .notion) (a .order) (a .set .now) _ told (t .before .before .if1 .left)
-    (t .before .if2 .left) (t .if3 .left) _ _ (c .before .before .before .before .before .before .before .before .first-breaking .ensures)
-    (c .before .before .before .before .before .before .if4 .left) _ (c .before .before .write .ensures))
+    (found-set _ _ _ _ _ _ _ (passed (q .before .before .before .before)) _ _ (q .before .before .first-breaking .ensures) (q .if4 .left) _
+    (c .before .before .write .ensures))
 
 pub verdict-spec : {M : Type 1} → statement M
 verdict-spec =
