@@ -3,6 +3,8 @@
 // writes the input, and works the output out by trying every value of shares and masks.
 ghost use Prim.Native.Nat.{_≤_, _<_};
 ghost use Rattle.records.specs.Layout.{wireCount};
+use cases::case_end;
+use cases::wide;
 use records::layout::RECORD_BYTES;
 use records::sums;
 use table::FunctionAnswer;
@@ -30,26 +32,14 @@ fn main() {
 // One case after the other.
 fn each(cases: &[u8]) {
     let mut at = 0;
-    while HEAD <= cases.len() - at {
-        let length = wide(cases[at + 3]) + 256 * wide(cases[at + 4]);
-        let start = at + HEAD;
-        if cases.len() - start < length {
-            return;
-        }
-        tell(
-            &cases[start..start + length],
-            wide(cases[at]),
-            wide(cases[at + 1]),
-            wide(cases[at + 2]),
-        );
-        at = start + length;
+    let mut end = case_end(cases, 0, HEAD);
+    while HEAD <= end - at {
+        let shares = wide(cases[at]);
+        let masks = wide(cases[at + 1]);
+        tell(&cases[at + HEAD..end], shares, masks, wide(cases[at + 2]));
+        at = end;
+        end = case_end(cases, at, HEAD);
     }
-}
-
-fn wide(x: u8) -> usize
-    ensures { λ r. ⌜ r < 256 ⌝ }
-{
-    x as usize
 }
 
 fn say(words: &[u8]) {

@@ -4,6 +4,8 @@
 // and works the output out from the scope.
 ghost use Prim.Native.Nat.{_≤_, _<_};
 ghost use lib.ListN.{length};
+use cases::case_end;
+use cases::wide;
 use records::layout::RECORD_BYTES;
 use sets::CountAnswer;
 use sets::JobAnswer;
@@ -42,25 +44,12 @@ fn main() {
 // One case after the other.
 fn each(cases: &[u8]) {
     let mut at = 0;
-    while HEAD <= cases.len() - at {
-        let length = wide(cases[at + 2]) + 256 * wide(cases[at + 3]);
-        let start = at + HEAD;
-        if cases.len() - start < length {
-            return;
-        }
-        tell(
-            &cases[start..start + length],
-            wide(cases[at]),
-            wide(cases[at + 1]),
-        );
-        at = start + length;
+    let mut end = case_end(cases, 0, HEAD);
+    while HEAD <= end - at {
+        tell(&cases[at + HEAD..end], wide(cases[at]), wide(cases[at + 1]));
+        at = end;
+        end = case_end(cases, at, HEAD);
     }
-}
-
-fn wide(x: u8) -> usize
-    ensures { λ r. ⌜ r < 256 ⌝ }
-{
-    x as usize
 }
 
 fn say(words: &[u8]) {
