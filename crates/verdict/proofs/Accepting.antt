@@ -23,7 +23,7 @@ use Rattle.counts.specs.Counts.{binom}
 use Rattle.sets.specs.Order.{rankOf}
 use Rattle.verdict.specs.Search.{searched, stretch, isBreaking}
 use Rattle.verdict.specs.Answers.{wrongNotion, notionOf, written, firstShown, firstRanked, verdictOf, rangeCheck}
-use Rattle.verdict.specs.Jobs.{nothing, found, broken, Ordered, Asked}
+use Rattle.verdict.specs.Jobs.{found, broken, Ordered, Asked}
 use Rattle.verdict.proofs.Admitting.{opened-told, opened-answer}
 use Rattle.verdict.proofs.Entries.{verdict-answer, range-answer}
 
@@ -133,10 +133,10 @@ module _ (buffer : List ℕ) where
   front p q long e =
       sym (take-append-seam p (drop (length p) buffer)) ∙ ap₂ {C = List ℕ} take long e ∙ take-append-seam q (drop (length q) buffer)
 
-  pub shown-nil : (l : List (List ℕ)) → firstShown l buffer ≡ nothing buffer → l ≡ []
+  pub shown-nil : (l : List (List ℕ)) → firstShown l buffer .told ≡ values [] → l ≡ []
   shown-nil [] e = refl
   shown-nil (s ∷ later) e =
-      let f = ap (λ (a : Lent). a .told) e in let z : _≡_ {A = ℕ} 0 1 = cc in let w : ⊥ = omega (arith, z) in absurd w
+      let z : _≡_ {A = ℕ} 0 1 = cc in let w : ⊥ = omega (arith, z) in absurd w
 
   pub shown-set : (l : List (List ℕ)) (s : List ℕ) → firstShown l buffer ≡ broken s buffer → (later : List (List ℕ)) × (l ≡ s ∷ later)
   shown-set [] s e = let f = ap (λ (a : Lent). a .told) e in let z : _≡_ {A = ℕ} 0 1 = cc in let w : ⊥ = omega (arith, z) in absurd w
@@ -145,10 +145,10 @@ module _ (buffer : List ℕ) where
       let long : length t ≡ length s = cc in
       (later, ap {B = List (List ℕ)} (λ u. u ∷ later) (front t s long (ap (λ (a : Lent). a .held) e)))
 
-  pub ranked-nil : (n : ℕ) (l : List (List ℕ)) → firstRanked n l buffer ≡ nothing buffer → l ≡ []
+  pub ranked-nil : (n : ℕ) (l : List (List ℕ)) → firstRanked n l buffer .told ≡ values [] → l ≡ []
   ranked-nil n [] e = refl
   ranked-nil n (s ∷ later) e =
-      let f = ap (λ (a : Lent). a .told) e in let z : _≡_ {A = ℕ} 0 1 = cc in let w : ⊥ = omega (arith, z) in absurd w
+      let z : _≡_ {A = ℕ} 0 1 = cc in let w : ⊥ = omega (arith, z) in absurd w
 
   pub ranked-set : (n : ℕ) (l : List (List ℕ)) (s : List ℕ) (rank : ℕ) → firstRanked n l buffer ≡ found s rank buffer
       → (later : List (List ℕ)) × (l ≡ s ∷ later) × (rank ≡ rankOf n s)

@@ -14,7 +14,7 @@ use Rattle.basics.specs.Folds.{upTo}
 use Rattle.basics.specs.Told.{Lent, values, refusal}
 use Rattle.wires.specs.declared.Notion.the-variants.{Ni}
 use Rattle.wires.specs.Wires.{countA, masked, breaks, beyond}
-use Rattle.watcher.proofs.Breaking.{no-choice}
+use Rattle.watcher.proofs.Choice.{no-choice}
 use Rattle.records.specs.Words.{bit}
 use Rattle.records.specs.Layout.{wireAt}
 use Rattle.counts.specs.Counts.{binom}
@@ -66,19 +66,22 @@ ranges = (refl, refl, refl, refl, refl, refl, refl)
 pub verdict-refusals : (map (λ notion. verdictOf pair 3 1 notion 9 []) (0 ∷ 3 ∷ [])
     ≡ record { told = refusal 14; held = [] } ∷ record { told = refusal 14; held = [] } ∷ [])
     × (map (λ order. verdictOf pair 3 1 1 order room) (0 ∷ 3 ∷ []) ≡ turns 15 ∷ turns 15 ∷ [])
+    × (verdictOf pair 3 1 1 9 [] ≡ record { told = refusal 15; held = [] })
     × (verdictOf pair 3 1 1 2 (9 ∷ []) ≡ record { told = refusal 16; held = 9 ∷ [] })
     × (verdictOf pair 3 1 1 2 (9 ∷ 9 ∷ []) ≡ record { told = values (2 ∷ []); held = 1 ∷ 2 ∷ [] })
     × (verdictOf pair 1 65 0 0 room ≡ turns 11) × (verdictOf (0 ∷ []) 2 0 0 0 room ≡ turns 12) × (verdictOf pair 2 1 0 0 room ≡ turns 13)
 unfolding searched isBreaking revolving breaks countA masked beyond bit upTo xor
-verdict-refusals = (refl, refl, refl, refl, refl, refl, refl)
+verdict-refusals = (refl, refl, refl, refl, refl, refl, refl, refl)
 
 -- 14, 17, 16 and 18 of a range check, on both sides, and which comes first
 pub range-refusals : (rangeCheck pair 3 1 3 8 1 0 room ≡ turns 14) × (rangeCheck pair 3 1 2 8 1 0 [] ≡ record { told = refusal 17; held = [] })
     × (rangeCheck pair 3 1 2 7 1 0 room ≡ turns 16) × (rangeCheck pair 3 1 2 3 1 0 room ≡ turns 18) × (rangeCheck pair 3 1 2 3 0 5 room ≡ turns 18)
     × (rangeCheck pair 3 1 1 3 4 4 room ≡ gives [] 9 9 9) × (rangeCheck pair 3 1 1 3 5 5 room ≡ turns 18)
+    × (rangeCheck pair 1 65 3 8 1 0 room ≡ turns 11) × (rangeCheck (0 ∷ []) 2 0 3 8 1 0 room ≡ turns 12)
+    × (rangeCheck pair 2 1 3 8 1 0 room ≡ turns 13)
     × (rangeCheck pair 3 2 1 3 0 4 room ≡ gives [] 9 9 9) × (rangeCheck pair 3 0 1 3 0 4 room ≡ turns 13)
 unfolding isBreaking revolving binom breaks countA masked beyond bit upTo xor
-range-refusals = (refl, refl, refl, refl, refl, refl, refl, refl, refl)
+range-refusals = (refl, refl, refl, refl, refl, refl, refl, refl, refl, refl, refl, refl)
 
 -- an empty table holds, at every order of 8 shares, and has no set of size 1
 pub empty-table : (verdictOf [] 8 64 2 7 (9 ∷ 9 ∷ 9 ∷ 9 ∷ 9 ∷ 9 ∷ 9 ∷ []) ≡ record { told = values []; held = 9 ∷ 9 ∷ 9 ∷ 9 ∷ 9 ∷ 9 ∷ 9 ∷ [] })

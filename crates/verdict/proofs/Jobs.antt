@@ -1,8 +1,8 @@
 -- A search that is divided over machines answers what one machine would, for any division into jobs.
+--     job-accepts       `job` tells bounds exactly where the numbers of wires, of wires of a set and of jobs are within limits, and the job is one of them
 --     jobs-clean        every job of a size is clean exactly when no set of the size breaks
 --     jobs-either       every job is clean, or a job finds a set and those before it are clean
 --     jobs-first        then what is found first over the jobs is the first breaking set of the size, with its rank
---     CleanBelow        every size from 1 up to, without, one is clean
 --     verdict-clean     a verdict holds exactly when all jobs of all sizes up to the order are clean
 --     verdict-first     else it shows what the jobs of the first size that is not clean find first
 use Prim.Native.Nat.{ℕ, zero, suc, _≤_, _<_}
@@ -10,13 +10,15 @@ use native.Mathlib.Nat.{eq-or-lt-of-le, le-of-suc-le-suc, not-suc-le-zero, le-re
 use native.Mathlib.Omega.{arith}
 use mathlib.Core.Path.{_≡_, refl, sym, _∙_, ap, ap₂, subst}
 use mathlib.Core.Logic.{_⊎_, inl, inr, _↔_}
-use mathlib.Core.Bool.{Bool, true, false}
+use mathlib.Core.Bool.{Bool, true, false, cond, _||_, true≢false}
 use mathlib.Core.List.{List, [], _∷_, _++_}
+use borrow.Author.Tests.{ltb-false, leb-false}
+use lib.Dec.{ltb, leb, eqb}
 use Rattle.basics.specs.Folds.{keep}
-use Rattle.basics.specs.Told.{Lent, values}
+use Rattle.basics.specs.Told.{Lent, values, refusal}
 use Rattle.basics.proofs.Folds.{keep-append}
 use Rattle.records.specs.Layout.{wireCount}
-use Rattle.table.proofs.Entries.{accepted-exactly}
+use Rattle.table.proofs.Entries.{values-refusal, accepted-exactly}
 use Rattle.counts.specs.Counts.{binom}
 use Rattle.sets.specs.Order.{revolving, setAt, rankOf, isSet}
 use Rattle.sets.specs.Answers.{jobRanks}
@@ -26,7 +28,7 @@ use Rattle.sets.proofs.Division.{start-rises, start-within, jobs-joined}
 use Rattle.sets.proofs.Entries.{job-told}
 use Rattle.verdict.specs.Search.{searched, isBreaking}
 use Rattle.verdict.specs.Answers.{notionOf, firstShown, firstRanked, verdictOf, rangeCheck}
-use Rattle.verdict.specs.Jobs.{nothing, found, broken, Ordered, Asked, Divided, JobAnswers, AllClean, FirstFound}
+use Rattle.verdict.specs.Jobs.{nothing, found, broken, Ordered, Asked, Divided, JobAnswers, AllClean, CleanBelow, FirstFound}
 use Rattle.verdict.proofs.Keeping.{each-place, keep-none, none-keep}
 use Rattle.verdict.proofs.Accepting.{verdict-answered, range-answered, shown-nil, ranked-nil, ranked-set}
 use Rattle.verdict.proofs.Turns.{first-of-size}
@@ -78,6 +80,33 @@ module _ (test : List ℕ → Bool) (g : ℕ → List (List ℕ)) where
 
 -- ---- the answers of the jobs
 
+pub job-accepts : (n size jobs job : ℕ)
+    → ((l : List ℕ) × (jobRanks n size job jobs ≡ values l)) ↔ ((n ≤ 512) × (size ≤ 7) × Divided jobs × (job < jobs))
+job-accepts n size jobs job = (λ t. there (t .0) (t .1), λ h. (_, job-told n size jobs (h .0) (h .1) (h .2 .some) (h .2 .few) job (h .3)))
+  where
+    there : (l : List ℕ) → jobRanks n size job jobs ≡ values l → (n ≤ 512) × (size ≤ 7) × Divided jobs × (job < jobs)
+    there l e = go (ltb 512 n) (ltb 7 size) (eqb jobs 0) (ltb 65536 jobs) (leb jobs job) refl refl refl refl refl e
+      where
+        go : (a b c d f : Bool) → ltb 512 n ≡ a → ltb 7 size ≡ b → eqb jobs 0 ≡ c → ltb 65536 jobs ≡ d → leb jobs job ≡ f
+            → cond a (refusal 12) (cond b (refusal 17) (cond (c || d || f) (refusal 19)
+            (values (start (binom n size) jobs job ∷ start (binom n size) jobs (suc job) ∷ [])))) ≡ values l
+            → (n ≤ 512) × (size ≤ 7) × Divided jobs × (job < jobs)
+        go true b c d f p q r s t e = absurd (values-refusal l 12 (sym e))
+        go false true c d f p q r s t e = absurd (values-refusal l 17 (sym e))
+        go false false true d f p q r s t e = absurd (values-refusal l 19 (sym e))
+        go false false false true f p q r s t e = absurd (values-refusal l 19 (sym e))
+        go false false false false true p q r s t e = absurd (values-refusal l 19 (sym e))
+        go false false false false false p q r s t e = (
+          ltb-false 512 n p,
+          ltb-false 7 size q,
+          record { some = pos jobs r; few = ltb-false 65536 jobs s },
+          leb-false jobs job t,
+        )
+          where
+            pos : (k : ℕ) → eqb k 0 ≡ false → 0 < k
+            pos zero e = absurd (true≢false e)
+            pos (suc k) e = omega arith
+
 module _ (table : List ℕ) (shares masks notion size jobs : ℕ) (buffer : List ℕ) (asked : Asked table shares masks notion size buffer)
     (divided : Divided jobs) where
   abbrev n : ℕ
@@ -120,7 +149,8 @@ module _ (table : List ℕ) (shares masks notion size jobs : ℕ) (buffer : List
   clean-none : AllClean table shares masks notion size jobs buffer → keep test (revolving n size) ≡ []
   clean-none clean =
       ap (keep test) (sym (jobs-joined n size jobs (divided .some)))
-      ∙ none-joined test (visited n size jobs) jobs (λ i h. ranked-nil buffer n (of-job i) (answers-job i h (nothing buffer) (clean i h)))
+      ∙ none-joined test (visited n size jobs) jobs (λ i h. ranked-nil buffer n (of-job i)
+      (ap (λ (a : Lent). a .told) (answers-job i h (nothing buffer) (clean i h))))
 
   none-clean : keep test (revolving n size) ≡ [] → AllClean table shares masks notion size jobs buffer
   none-clean none i h =
@@ -146,7 +176,7 @@ module _ (table : List ℕ) (shares masks notion size jobs : ℕ) (buffer : List
       (r .0, ap (keep test) (sym (jobs-joined n size jobs (divided .some))) ∙ r .1, shown .2)
     where
       none : (k : ℕ) → k < f .job → keep test (visited n size jobs k) ≡ []
-      none k h = ranked-nil buffer n (of-job k) (answers-job k (omega (arith, f .one)) (nothing buffer) (f .before k h))
+      none k h = ranked-nil buffer n (of-job k) (ap (λ (a : Lent). a .told) (answers-job k (omega (arith, f .one)) (nothing buffer) (f .before k h)))
 
   pub jobs-either : AllClean table shares masks notion size jobs buffer
       ⊎ ((s : List ℕ) × (rank : ℕ) × FirstFound table shares masks notion size jobs buffer s rank)
@@ -200,29 +230,27 @@ module _ (table : List ℕ) (shares masks notion order : ℕ) (buffer : List ℕ
   answered : verdictOf table shares masks notion order buffer ≡ firstShown (keep tests (searched (wireCount table) order)) buffer
   answered = verdict-answered table shares masks notion order buffer ordered
 
-  -- every size from 1 up to, without, this one is clean
-  abbrev pub CleanBelow : ℕ → Type 0
-  CleanBelow size = (k : ℕ) → 1 ≤ k → k < size → AllClean table shares masks notion k (jobs k) buffer
-
-  below-none : (t : ℕ) → t ≤ order → CleanBelow (suc t) → keep tests (searched (wireCount table) t) ≡ []
+  below-none : (t : ℕ) → t ≤ order → CleanBelow table shares masks notion jobs buffer (suc t) → keep tests (searched (wireCount table) t) ≡ []
   below-none t h clean =
       none-keep tests (searched (wireCount table) t)
       (each-searched (wireCount table) (λ s. tests s ≡ false) t
       (λ k b s e. jobs-clean table shares masks notion (suc k) (jobs (suc k)) buffer (asked-size (suc k) (omega arith)) (divided (suc k)) .0
       (clean (suc k) (omega arith) (omega arith)) s e))
 
-  pub verdict-clean : (verdictOf table shares masks notion order buffer ≡ nothing buffer) ↔ CleanBelow (suc order)
+  pub verdict-clean : (verdictOf table shares masks notion order buffer ≡ nothing buffer) ↔ CleanBelow table shares masks notion jobs buffer
+      (suc order)
   verdict-clean = (there, λ clean. answered ∙ ap (λ (l : List (List ℕ)). firstShown l buffer) (below-none order (le-refl order) clean))
     where
-      there : verdictOf table shares masks notion order buffer ≡ nothing buffer → CleanBelow (suc order)
+      there : verdictOf table shares masks notion order buffer ≡ nothing buffer → CleanBelow table shares masks notion jobs buffer (suc order)
       there e zero low h = absurd (not-suc-le-zero low)
       there e (suc k) low h =
           jobs-clean table shares masks notion (suc k) (jobs (suc k)) buffer (asked-size (suc k) (omega arith)) (divided (suc k)) .1
           (of-size (wireCount table) (λ s. tests s ≡ false) (suc k)
           (each-size (wireCount table) (λ s. tests s ≡ false) order k (omega arith)
-          (keep-none tests (searched (wireCount table) order) (shown-nil buffer (keep tests (searched (wireCount table) order)) (sym answered ∙ e)))))
+          (keep-none tests (searched (wireCount table) order) (shown-nil buffer (keep tests (searched (wireCount table) order))
+          (ap (λ (a : Lent). a .told) (sym answered ∙ e))))))
 
-  pub verdict-first : (size rank : ℕ) (set : List ℕ) → 1 ≤ size → size ≤ order → CleanBelow size
+  pub verdict-first : (size rank : ℕ) (set : List ℕ) → 1 ≤ size → size ≤ order → CleanBelow table shares masks notion jobs buffer size
       → FirstFound table shares masks notion size (jobs size) buffer set rank → verdictOf table shares masks notion order buffer ≡ broken set buffer
   verdict-first zero rank set low high clean f = absurd (not-suc-le-zero low)
   verdict-first (suc t) rank set low high clean f =

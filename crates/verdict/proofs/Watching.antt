@@ -19,8 +19,7 @@ use Rattle.basics.proofs.Tests.{and-left, and-right, and-both}
 use Rattle.wires.specs.Wires.{breaks}
 use Rattle.wires.proofs.Breaks.{empty-breaks-nothing}
 use Rattle.watcher.proofs.Bits.{pick, pick-map}
-use Rattle.watcher.proofs.Choice.{choice}
-use Rattle.watcher.proofs.Breaking.{no-choice}
+use Rattle.watcher.proofs.Choice.{choice, no-choice}
 use Rattle.records.specs.Layout.{wireAt, wireCount}
 use Rattle.sets.specs.Order.{revolving, setAt, rankOf, rising, below, isSet}
 use Rattle.sets.proofs.Rising.{Chosen, chosen-true, chosen-is, rising-chosen, isSet-parts, parts-isSet}

@@ -2,14 +2,18 @@
 --     NotAfter           a set comes no later than another: by size, then by rank
 --     FirstBreaking      a set to watch that breaks the notion, and no such set comes before it
 --     FirstInRange       the set at the first rank of a range whose set breaks the notion
+--     VerdictFinds       holds: no set to watch breaks; broken: the set shown is the first that does
+--     RangeFinds         clean: no set at a rank of the range breaks; found: the set written, of the size asked for, is the first that does, at that rank
 use Prim.Native.Nat.{ℕ, _≤_, _<_}
 use mathlib.Core.Path.{_≡_}
 use mathlib.Core.Logic.{_⊎_}
 use mathlib.Core.Bool.{true, false}
 use mathlib.Core.List.{List}
-use lib.ListN.{length}
+use lib.ListN.{length, take}
 use Rattle.records.specs.Layout.{wireCount}
 use Rattle.sets.specs.Order.{setAt, rankOf}
+use Rattle.verdict.specs.declared.VerdictAnswer.{VerdictAnswer}
+use Rattle.verdict.specs.declared.RangeAnswer.{RangeAnswer}
 use Rattle.verdict.specs.Search.{isBreaking}
 use Rattle.verdict.specs.Answers.{notionOf}
 use Rattle.verdict.specs.Guarantee.{Watched}
@@ -28,3 +32,13 @@ pub record FirstInRange (table : List ℕ) (shares masks notion size from to : �
   pub stands : setAt (wireCount table) size rank ≡ set
   pub breaking : isBreaking (notionOf notion) table shares masks set ≡ true
   pub first : (r : ℕ) → from ≤ r → r < rank → isBreaking (notionOf notion) table shares masks (setAt (wireCount table) size r) ≡ false
+
+pub record VerdictFinds (answer : VerdictAnswer) (table : List ℕ) (shares masks notion order : ℕ) (held : List ℕ) : Type 0 where
+  pub holds : answer ≡ VerdictAnswer.Holds → (u : List ℕ) → Watched table order u → isBreaking (notionOf notion) table shares masks u ≡ false
+  pub broken : (size : ℕ) → answer ≡ VerdictAnswer.Broken size → FirstBreaking table shares masks notion order (take size held)
+
+pub record RangeFinds (answer : RangeAnswer) (table : List ℕ) (shares masks notion size from to : ℕ) (held : List ℕ) : Type 0 where
+  pub clean : answer ≡ RangeAnswer.Clean
+      → (r : ℕ) → from ≤ r → r < to → isBreaking (notionOf notion) table shares masks (setAt (wireCount table) size r) ≡ false
+  pub found : (k rank : ℕ) → answer ≡ RangeAnswer.Found k rank
+      → (k ≡ size) × FirstInRange table shares masks notion size from to (take size held) rank

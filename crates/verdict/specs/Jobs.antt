@@ -5,6 +5,7 @@
 --     Divided                  a number of jobs that is not turned down
 --     JobAnswers               what the range check of a job answers
 --     AllClean                 every job is clean
+--     CleanBelow               every job of every size from 1 up to, without, one is clean, with a number of jobs of its own for each size
 --     FirstFound               a job finds a set, and every job before it is clean
 use Prim.Native.Nat.{ℕ, _≤_, _<_}
 use mathlib.Core.Path.{_≡_}
@@ -52,6 +53,9 @@ pub record JobAnswers (table : List ℕ) (shares masks notion size jobs job : �
 abbrev pub AllClean : List ℕ → ℕ → ℕ → ℕ → ℕ → ℕ → List ℕ → Type 0
 AllClean table shares masks notion size jobs buffer =
     (job : ℕ) → job < jobs → JobAnswers table shares masks notion size jobs job buffer (nothing buffer)
+
+abbrev pub CleanBelow : List ℕ → ℕ → ℕ → ℕ → (ℕ → ℕ) → List ℕ → ℕ → Type 0
+CleanBelow table shares masks notion jobs buffer size = (k : ℕ) → 1 ≤ k → k < size → AllClean table shares masks notion k (jobs k) buffer
 
 pub record FirstFound (table : List ℕ) (shares masks notion size jobs : ℕ) (buffer set : List ℕ) (rank : ℕ) : Type 0 where
   pub job : ℕ

@@ -5,6 +5,7 @@ ghost use mathlib.Core.Path.{_≡_};
 ghost use Prim.Native.Nat.{_≤_};
 ghost use lib.ListN.{length};
 ghost use Rattle.verdict.specs.Answers.{refusalNumber, openedTold, opens, verdictTold, verdictOf, rangeTold, rangeCheck, written};
+ghost use Rattle.verdict.specs.First.{VerdictFinds, RangeFinds};
 ghost use Rattle.verdict.specs.Guarantee.{Guarantee};
 use counts::count;
 use records::layout::RECORD_BYTES;
@@ -87,6 +88,7 @@ pub fn verdict(
     set: &mut [u16],
 ) -> VerdictAnswer
     ensures { λ r. ⌜ verdictTold r (now (set .exit)) ≡ verdictOf (now (table .entry)) shares masks notion order (now (set .entry)) ⌝ }
+    ensures { λ r. ⌜ VerdictFinds r (now (table .entry)) shares masks notion order (now (set .exit)) ⌝ }
     ensures { λ r. ⌜ Guarantee r (now (table .entry)) shares masks notion order (now (set .exit)) ⌝ }
 {
     let opened = opening(table, shares, masks, notion);
@@ -126,6 +128,7 @@ pub fn range_check(
     set: &mut [u16],
 ) -> RangeAnswer
     ensures { λ r. ⌜ rangeTold r (now (set .exit)) ≡ rangeCheck (now (table .entry)) shares masks notion size from to (now (set .entry)) ⌝ }
+    ensures { λ r. ⌜ RangeFinds r (now (table .entry)) shares masks notion size from to (now (set .exit)) ⌝ }
 {
     let opened = opening(table, shares, masks, notion);
     match opened {

@@ -5,7 +5,8 @@
 --     add-none, bit-add, rest-add      nothing added; a bit of the sum; the sum without its first bit
 --     single-bit, single-length   the bits of that list, and its length
 --     pick-none, pick-first       what is chosen from the empty list; from a longer one, by the first bit
---     pick-map, pick-nothing      chosen from a mapped list; bits that are all 0 choose nothing
+--     pick-map                    chosen from a mapped list
+--     pick-nothing, pick-all      bits that are all 0 choose nothing, bits that are all 1 everything
 --     parity-first, parity-add    sums over chosen elements are added where the choices are
 --     bits-first                  all lists of n + 1 bits: those that begin with 0, those that begin with 1
 --     bits-cong                   functions that are equal on lists of n bits
@@ -79,6 +80,10 @@ module _ {A : Type 0} where
   pick-nothing zero v = refl
   pick-nothing (suc n) [] = refl
   pick-nothing (suc n) (x ∷ v) = pick-nothing n v
+
+  pub pick-all : (v : List A) → pick (replicate (length v) true) v ≡ v
+  pick-all [] = refl
+  pick-all (x ∷ v) = ap {B = List A} (λ u. x ∷ u) (pick-all v)
 
   pub pick-map : {B : Type 0} (f : A → B) (l : List Bool) (v : List A) → map f (pick l v) ≡ pick l (map f v)
   pick-map f [] v = refl

@@ -1,27 +1,36 @@
--- Where no subset of the watched wires breaks the notion, a choice of shares exists: those on which a sum of some of them without masks depends.
+-- Which sets admit a choice of shares. The shares on which a sum of some of the wires without masks depends are enough, and every choice has to hold
+-- them; where no part of the set breaks the notion they are few enough.
 --     total-add        the sums of two choices of wires are added where the choices are
 --     free-closed      adding a choice whose sum has no mask neither brings nor takes a mask
 --     free-present     some choice has a sum without masks
 --     within           a set that does not break, and has no mask, depends on no more shares of an operand than it pays for
---     choice           the choice exists
-use Prim.Native.Nat.{ℕ, _≤_}
+--     choice-exactly   a set admits a choice exactly when these shares are few enough, of each operand
+--     choice           where no part of a set breaks the notion it admits one
+--     no-choice        a set that breaks the notion admits none
+use Prim.Native.Nat.{ℕ, _≤_, _<_}
+use native.Mathlib.Nat.{le-trans}
+use native.Mathlib.Omega.{arith}
 use mathlib.Core.Path.{_≡_, refl, sym, _∙_, ap, ap₂}
+use mathlib.Core.Logic.{_↔_, _⊎_, inl, inr}
 use mathlib.Core.Bool.{Bool, true, false, not, _&&_, _||_, xor}
 use mathlib.Core.List.{List}
 use borrow.Author.Tests.{ltb-false, not-true}
 use lib.Dec.{ltb}
-use lib.ListN.{length}
-use Rattle.basics.specs.Folds.{count}
-use Rattle.basics.proofs.Tests.{or-none, xor-false}
+use lib.ListN.{length, replicate, length-replicate}
+use Rattle.basics.specs.Folds.{count, upTo}
+use Rattle.basics.proofs.Tests.{and-left, and-right, and-both, or-none, xor-false}
 use Rattle.basics.proofs.Folds.{fold-hom, fold-below, none-below, never}
 use Rattle.wires.specs.declared.Notion.{Notion}
-use Rattle.wires.specs.Wires.{Terms, Wire, none, plus, total, swap, countA, countB, masked, pays, allowed, breaks}
+use Rattle.wires.specs.Wires.{Terms, Wire, none, plus, total, swap, dependsA, countA, countB, masked, pays, allowed, breaks}
 use Rattle.wires.proofs.Value.{terms-ext}
+use Rattle.wires.proofs.Breaks.{Breaks, breaks-exactly}
 use Rattle.watcher.specs.Watcher.{bitLists, Choice}
-use Rattle.watcher.proofs.Bits.{add, pick, pick-nothing, parity-add, bits-count}
+use Rattle.watcher.proofs.Counting.{count-le, covered}
+use Rattle.watcher.proofs.Bits.{add, pick, pick-nothing, pick-all, parity-add, bits-some, bits-where, bits-count}
 use Rattle.watcher.proofs.Halves.{Closed}
 use Rattle.watcher.proofs.Shares.{few}
 use Rattle.watcher.proofs.Blind.{free, chosen, blind}
+use Rattle.watcher.proofs.Needed.{needed, needed-b}
 
 pub total-add : (v : List Wire) (l d : List Bool) → total (pick (add l d) v) ≡ plus (total (pick l v)) (total (pick d v))
 total-add v l d =
@@ -60,15 +69,71 @@ within notion n m s whole unmasked =
     let parts = or-none a b (ap (λ (z : Bool). z && (a || b)) (sym unmasked) ∙ whole) in
     (ltb-false (allowed notion s) (countA n (total s)) (parts .0), ltb-false (allowed notion s) (countB n (total s)) (parts .1))
 
+-- the choice is made of just the shares that every choice has to hold
+pub choice-exactly : (notion : Notion) (n m : ℕ) (v : List Wire)
+    → Choice notion n m v ↔ ((count (chosen n m v (λ t. t)) (upTo n) ≤ allowed notion v) × (count (chosen n m v swap) (upTo n) ≤ allowed notion v))
+choice-exactly notion n m v = (
+  there,
+  λ h. record {
+    chosenA = chosen n m v (λ t. t);
+    chosenB = chosen n m v swap;
+    fewA = h .0;
+    fewB = h .1;
+    blind = λ x y agree p long. blind n m v p long x y agree;
+  },
+)
+  where
+    -- no more shares are chosen than are held by what holds each of them
+    no-more : (g : Terms → Terms) (held : ℕ → Bool)
+        → ((l : List Bool) → masked m (total (pick l v)) ≡ false → (i : ℕ) → i < n → dependsA n (g (total (pick l v))) i ≡ true → held i ≡ true)
+        → count (chosen n m v g) (upTo n) ≤ count held (upTo n)
+    no-more g held needs =
+        covered held (chosen n m v g) (upTo n) (none-below n (λ i. chosen n m v g i && not (held i)) (λ i below. go i below (chosen n m v g i) refl))
+      where
+        go : (i : ℕ) → i < n → (b : Bool) → chosen n m v g i ≡ b → (b && not (held i)) ≡ false
+        go i below false e = refl
+        go i below true e =
+            let w = bits-where (length v) (λ l. free m v l && dependsA n (g (total (pick l v))) i) e in
+            let t = total (pick (w .0) v) in
+            let unmasked = not-true (masked m t) (and-left (not (masked m t)) (dependsA n (g t) i) (w .2)) in
+            ap not (needs (w .0) unmasked i below (and-right (not (masked m t)) (dependsA n (g t) i) (w .2)))
+
+    there : Choice notion n m v
+        → (count (chosen n m v (λ t. t)) (upTo n) ≤ allowed notion v) × (count (chosen n m v swap) (upTo n) ≤ allowed notion v)
+    there c = (
+      le-trans (no-more (λ t. t) (c .chosenA) (needed notion n m v c)) (c .fewA),
+      le-trans (no-more swap (c .chosenB) (needed-b notion n m v c)) (c .fewB),
+    )
+
 pub choice : (notion : Notion) (n m : ℕ) (v : List Wire) → ((l : List Bool) → breaks notion n m (pick l v) ≡ false) → Choice notion n m v
-choice notion n m v whole = record {
-  chosenA = chosen n m v (λ t. t);
-  chosenB = chosen n m v swap;
-  fewA =
+choice notion n m v whole =
+    choice-exactly notion n m v .1 (
       few n (pays notion) v (free m v) (free-closed m v) (free-present m v) (λ l. total (pick l v)) (total-add v)
-      (λ l e. within notion n m (pick l v) (whole l) e .0);
-  fewB =
+          (λ l e. within notion n m (pick l v) (whole l) e .0),
       few n (pays notion) v (free m v) (free-closed m v) (free-present m v) (λ l. swap (total (pick l v))) (λ l d. ap swap (total-add v l d))
-      (λ l e. within notion n m (pick l v) (whole l) e .1);
-  blind = λ x y agree p long. blind n m v p long x y agree;
-}
+          (λ l e. within notion n m (pick l v) (whole l) e .1),
+    )
+
+pub no-choice : (notion : Notion) (n m : ℕ) (v : List Wire) → breaks notion n m v ≡ true → Choice notion n m v → ⊥
+unfolding countA masked
+no-choice notion n m v e c = go (h .exceeds)
+  where
+    h : Breaks notion n m v
+    h = breaks-exactly notion n m v .0 e
+
+    -- the whole set is one of its parts
+    of-all : (g : Terms → Terms) → countA n (g (total v)) ≤ count (chosen n m v g) (upTo n)
+    of-all g =
+        count-le (dependsA n (g (total v))) (chosen n m v g) (upTo n)
+        (λ i d. bits-some (length v) (λ l. free m v l && dependsA n (g (total (pick l v))) i) (replicate (length v) true)
+        (length-replicate (length v) true)
+        (and-both (free m v (replicate (length v) true)) (dependsA n (g (total (pick (replicate (length v) true) v))) i)
+        (ap (λ (s : List Wire). not (masked m (total s))) (pick-all v) ∙ ap not (none-below m (total v .mask) (h .unmasked)))
+        (ap (λ (s : List Wire). dependsA n (g (total s)) i) (pick-all v) ∙ d)))
+
+    few-of : (count (chosen n m v (λ t. t)) (upTo n) ≤ allowed notion v) × (count (chosen n m v swap) (upTo n) ≤ allowed notion v)
+    few-of = choice-exactly notion n m v .0 c
+
+    go : (allowed notion v < countA n (total v)) ⊎ (allowed notion v < countB n (total v)) → ⊥
+    go (inl more) = omega (arith, of-all (λ t. t), few-of .0)
+    go (inr more) = omega (arith, of-all swap, few-of .1)

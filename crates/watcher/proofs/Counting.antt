@@ -5,17 +5,16 @@
 --     sum-exchange             two sums in either order
 --     count-split              the elements that pass a test, with a second one and without it
 --     count-none, count-some   a test that passes nowhere; that passes somewhere
---     covered, passes-alone    where more pass one test than another, something passes the one and not the other
-use Prim.Native.Nat.{ℕ, _+_, _*_, _≤_, _<_}
+--     covered                  where nothing passes one test and not another, no more pass the one than the other
+use Prim.Native.Nat.{ℕ, _+_, _*_, _≤_}
 use native.Mathlib.Nat.{zero-add, add-comm, add-assoc, add-le-add, add-mul, zero-mul, le-refl}
 use native.Mathlib.Omega.{arith}
 use mathlib.Core.Path.{_≡_, refl, sym, _∙_, ap}
 use mathlib.Core.Bool.{Bool, true, false, not, _&&_, _||_, true≢false, false≢true}
 use mathlib.Core.List.{List, [], _∷_}
-use borrow.Author.Tests.{not-true}
-use Rattle.basics.specs.Folds.{fold, some, count, oneIf, upTo}
-use Rattle.basics.proofs.Tests.{and-left, and-right, or-none}
-use Rattle.basics.proofs.Folds.{fold-cong, fold-hom, fold-both, fold-exchange, some-where}
+use Rattle.basics.specs.Folds.{fold, some, count, oneIf}
+use Rattle.basics.proofs.Tests.{or-none}
+use Rattle.basics.proofs.Folds.{fold-cong, fold-hom, fold-both, fold-exchange}
 
 module _ {A : Type 0} where
   abbrev pub sum : (A → ℕ) → List A → ℕ
@@ -82,16 +81,3 @@ module _ {A : Type 0} (f g : A → Bool) where
       one true false e = omega arith
       one false true e = absurd (true≢false e)
       one false false e = le-refl 0
-
--- where more numbers pass one test than another, some number passes the one and not the other
-pub passes-alone : (n : ℕ) (f g : ℕ → Bool) → count f (upTo n) < count g (upTo n) → (i : ℕ) × (i < n) × (g i ≡ true) × (f i ≡ false)
-passes-alone n f g less = go (some both (upTo n)) refl
-  where
-    both : ℕ → Bool
-    both i = g i && not (f i)
-
-    go : (b : Bool) → some both (upTo n) ≡ b → (i : ℕ) × (i < n) × (g i ≡ true) × (f i ≡ false)
-    go true e =
-        let w = some-where n both e in
-        (w .0, w .1, and-left (g (w .0)) (not (f (w .0))) (w .2), not-true (f (w .0)) (and-right (g (w .0)) (not (f (w .0))) (w .2)))
-    go false e = let most = covered f g (upTo n) e in absurd (omega arith)

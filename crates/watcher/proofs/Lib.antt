@@ -6,8 +6,8 @@
 --     Shares     the shares that unmasked sums name are few
 --     Apart      a pattern that differs is told apart by half of the sums
 --     Blind      inputs that agree on those shares give every pattern from equally many settings
---     Choice     where no subset breaks, shares can be chosen
---     Breaking   a breaking set admits no choice
+--     Needed     what every choice has to hold
+--     Choice     which sets admit a choice: not one that breaks, and every one of which no part breaks
 --     Samples    small gadgets with a choice and without
 pub mod Patterns
 pub mod Counting
@@ -16,6 +16,6 @@ pub mod Halves
 pub mod Shares
 pub mod Apart
 pub mod Blind
+pub mod Needed
 pub mod Choice
-pub mod Breaking
 pub mod Samples

@@ -5,10 +5,12 @@
 --     agreement-on-both               a secret of a, of b, in the clear: no choice
 --     outer-pays-nothing              an outer share alone: no choice under SNI, one under NI
 --     product-watched                 a product alone: a share of each operand
+--     broken-inside                   a set that does not break, with a part that does: no choice
 --     empty-set                       nothing watched, nothing chosen
 --     one-wire-counted, two-wires-counted, twice-counted, clear-counted     from how many settings patterns come
 use Prim.Native.Nat.{ℕ, _+_, _≤_, _<_, zero-le}
 use native.Mathlib.Nat.{le-refl, le-of-eq, zero-add, suc-inj, suc-ne-zero}
+use native.Mathlib.Omega.{arith}
 use mathlib.Core.Path.{_≡_, refl, sym, _∙_, ap, ap₂}
 use mathlib.Core.Bool.{Bool, true, false, not, _&&_, Bool·beq, xor}
 use mathlib.Core.List.{List, [], _∷_}
@@ -23,7 +25,7 @@ use Rattle.wires.specs.Wires.{Terms, Wire, Input, value, plus, swap, dependsA, 
 use Rattle.wires.proofs.Value.{value-plus, value-agree}
 use Rattle.wires.proofs.Units.{justProduct, justShare, justMask, value-of-share, value-of-mask}
 use Rattle.watcher.specs.Watcher.{bitLists, maskOf, shown, equal, comes, Choice}
-use Rattle.watcher.proofs.Breaking.{no-choice}
+use Rattle.watcher.proofs.Choice.{choice-exactly, no-choice}
 
 abbrev inner : Terms → Wire
 inner t = record { terms = t; outer = false }
@@ -129,6 +131,13 @@ outer-pays-nothing = let v = outer-wire (justShare 0) ∷ [] in (no-choice Sni 2
 pub product-watched : Choice Sni 2 0 (inner (justProduct 0 1) ∷ [])
 unfolding upTo
 product-watched = own-shares Sni 2 0 (inner (justProduct 0 1) ∷ []) (le-refl 1) (le-refl 1)
+
+-- the secret, and an outer mask beside it that hides nothing: the set does not break, and still shows the secret
+pub broken-inside : let v = inner secret ∷ outer-wire (justMask 0) ∷ [] in (breaks Sni 2 1 v ≡ false) × (Choice Sni 2 1 v → ⊥)
+unfolding breaks countA masked bitLists upTo xor
+broken-inside =
+    let v = inner secret ∷ outer-wire (justMask 0) ∷ [] in
+    (refl, λ c. let two : _≤_ 2 1 = choice-exactly Sni 2 1 v .0 c .0 in omega (arith, two))
 
 -- nothing watched, nothing chosen
 pub empty-set : (notion : Notion) (n m : ℕ) → NoneChosen notion n m []

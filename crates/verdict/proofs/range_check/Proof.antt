@@ -1,14 +1,26 @@
 -- `verdict::range_check` meets its contract: each refusal where its test is the first to fail, with the buffer as it was, else what the search
 -- found. Assumes nothing.
+use Prim.Native.Nat.{ℕ}
 use native.Mathlib.Omega.{arith}
 use mathlib.Core.Path.{_≡_, sym, _∙_, ap}
+use mathlib.Core.List.{List}
 use borrow.Author.Needs.{needs}
 use Rattle.wires.specs.declared.Notion.{Notion}
 use Rattle.verdict.specs.declared.Opened.{Opened}
-use Rattle.verdict.specs.Answers.{openedTold, opens}
+use Rattle.verdict.specs.declared.RangeAnswer.{RangeAnswer}
+use Rattle.verdict.specs.Answers.{rangeTold, openedTold, opens, rangeCheck}
+use Rattle.verdict.specs.First.{RangeFinds}
 use Rattle.verdict.proofs.Entries.{PassedRange, short, range-bytes, range-before, size-large, range-room, ranks-low, ranks-high, range-clean, range-found}
+use Rattle.verdict.proofs.First.{range-finds}
 use Rattle.verdict.proofs.range_check.Statement.{statement}
 use Rattle.verdict.proofs.range_check.Tie as tie
+
+promised : {answer : RangeAnswer} {held table : List ℕ} {shares masks notion size from to : ℕ} (buffer : List ℕ)
+    → rangeTold answer held ≡ rangeCheck table shares masks notion size from to buffer
+    → (rangeTold answer held ≡ rangeCheck table shares masks notion size from to buffer)
+    × RangeFinds answer table shares masks notion size from to held
+promised {answer} {held} {table} {shares} {masks} {notion} {size} {from} {to} buffer e =
+    (e, range-finds table shares masks notion size from to buffer held answer e)
 
 -- the notion, where the first tests passed
 abbrev kind : tie.After-opened2 → Notion
@@ -45,14 +57,16 @@ returns : tie.Need-returns
 returns c =
     let o = c .before .before in
     let a = o .before .before .before .before .before .args in
-    size-large (a .table .now) (a .shares) (a .masks) (a .notion) (a .size) (a .from) (a .to) (a .set .now) (kind o) (told o) (c .if1 .taken)
+    promised (a .set .now)
+    (size-large (a .table .now) (a .shares) (a .masks) (a .notion) (a .size) (a .from) (a .to) (a .set .now) (kind o) (told o) (c .if1 .taken))
 
 returns-2 : tie.Need-returns-2
 returns-2 c =
     let o = c .before .before .before in
     let a = o .before .before .before .before .before .args in
-    range-room (a .table .now) (a .shares) (a .masks) (a .notion) (a .size) (a .from) (a .to) (a .set .now) (kind o) (told o) (c .before .if1 .left)
-    (c .if2 .taken)
+    promised (a .set .now)
+    (range-room (a .table .now) (a .shares) (a .masks) (a .notion) (a .size) (a .from) (a .to) (a .set .now) (kind o) (told o) (c .before .if1 .left)
+    (c .if2 .taken))
 
 table-requires : tie.Need-table-requires
 table-requires c κs = search needs
@@ -69,17 +83,19 @@ returns-3 c =
     let t = c .before .before .before .before in
     let o = t .before .before .before in
     let a = o .before .before .before .before .before .args in
-    ranks-low (a .table .now) (a .shares) (a .masks) (a .notion) (a .size) (a .from) (a .to) (a .set .now) (kind o) (told o) (t .before .if1 .left)
-    (t .if2 .left) (c .if3 .taken)
+    promised (a .set .now)
+    (ranks-low (a .table .now) (a .shares) (a .masks) (a .notion) (a .size) (a .from) (a .to) (a .set .now) (kind o) (told o) (t .before .if1 .left)
+    (t .if2 .left) (c .if3 .taken))
 
 returns-4 : tie.Need-returns-4
 returns-4 c =
     let t = c .before .before .before .before .before in
     let o = t .before .before .before in
     let a = o .before .before .before .before .before .args in
-    ranks-high (a .table .now) (a .shares) (a .masks) (a .notion) (a .size) (a .from) (a .to) (a .set .now) (kind o) (told o) (t .before .if1 .left)
+    promised (a .set .now)
+    (ranks-high (a .table .now) (a .shares) (a .masks) (a .notion) (a .size) (a .from) (a .to) (a .set .now) (kind o) (told o) (t .before .if1 .left)
     (t .if2 .left) (c .before .if3 .left)
-    (omega (arith, c .before .before .count .ensures, c .if4 .taken))
+    (omega (arith, c .before .before .count .ensures, c .if4 .taken)))
 
 slice-aggregate-first-breaking-rank : tie.Need-slice-aggregate-first-breaking-rank
 slice-aggregate-first-breaking-rank c = search needs
@@ -91,8 +107,11 @@ first-breaking-rank-requires c κs =
 
 returns-5 : tie.Need-returns-5
 returns-5 c =
-    range-clean _ _ _ _ _ _ _ _ _ (passed (c .before .before .before .before .before)) _ _ (c .before .before .first-breaking-rank .ensures)
-    (c .if5 .taken)
+    let e = c .before .before .before .before .before in
+    let a = e .before .before .before .before .before .before .before .before .before .before .before .before .before .args in
+    promised (a .set .now)
+    (range-clean _ _ _ _ _ _ _ _ _ (passed e) _ _ (c .before .before .first-breaking-rank .ensures)
+    (c .if5 .taken))
 
 sub-write : tie.Need-sub-write
 sub-write c = search needs
@@ -109,8 +128,9 @@ write-requires c κs = search needs
 returns-6 : tie.Need-returns-6
 returns-6 c =
     let a = c .before .before .before .before .before .before .args in
-    range-before (a .table .now) (a .shares) (a .masks) (a .notion) (a .size) (a .from) (a .to) (a .set .now) _
-    (ap openedTold (sym (c .before .opened .given .1)) ∙ c .before .before .before .opening .ensures)
+    promised (a .set .now)
+    (range-before (a .table .now) (a .shares) (a .masks) (a .notion) (a .size) (a .from) (a .to) (a .set .now) _
+    (ap openedTold (sym (c .before .opened .given .1)) ∙ c .before .before .before .opening .ensures))
 
 same-length : tie.Need-same-length
 same-length c = search needs
@@ -118,9 +138,12 @@ same-length c = search needs
 returns-7 : tie.Need-returns-7
 returns-7 c =
     let q = c .before .before .before .before .before .before in
-    range-found _ _ _ _ _ _ _ _ _ (passed (q .before .before .before .before .before)) _ _ (q .before .before .first-breaking-rank .ensures)
+    let e = q .before .before .before .before .before in
+    let a = e .before .before .before .before .before .before .before .before .before .before .before .before .before .args in
+    promised (a .set .now)
+    (range-found _ _ _ _ _ _ _ _ _ (passed e) _ _ (q .before .before .first-breaking-rank .ensures)
     (q .if5 .left) _
-    (c .before .before .write .ensures)
+    (c .before .before .write .ensures))
 
 pub range-check-spec : {M : Type 1} → statement M
 range-check-spec =

@@ -8,15 +8,19 @@ use Rattle.wires.specs.declared.Notion.{Notion}
 use Rattle.verdict.specs.declared.Opened.{Opened}
 use Rattle.verdict.specs.declared.VerdictAnswer.{VerdictAnswer}
 use Rattle.verdict.specs.Answers.{openedTold, opens, verdictTold, verdictOf}
+use Rattle.verdict.specs.First.{VerdictFinds}
 use Rattle.verdict.specs.Guarantee.{Guarantee}
 use Rattle.verdict.proofs.Entries.{Promise, Passed, before, order-low, order-high, no-room, found-none, found-set, bytes, seven, size-within}
+use Rattle.verdict.proofs.First.{verdict-finds}
 use Rattle.verdict.proofs.verdict.Statement.{statement}
 use Rattle.verdict.proofs.verdict.Tie as tie
 
 promised : {answer : VerdictAnswer} {held table : List ℕ} {shares masks notion order : ℕ} {buffer : List ℕ}
     → Promise answer held table shares masks notion order buffer
-    → (verdictTold answer held ≡ verdictOf table shares masks notion order buffer) × Guarantee answer table shares masks notion order held
-promised p = (p .equation, p .guarantee)
+    → (verdictTold answer held ≡ verdictOf table shares masks notion order buffer)
+    × (VerdictFinds answer table shares masks notion order held × Guarantee answer table shares masks notion order held)
+promised {answer} {held} {table} {shares} {masks} {notion} {order} {buffer} p =
+    (p .equation, (verdict-finds table shares masks notion order buffer held answer (p .equation), p .guarantee))
 
 -- the notion, where the first tests passed
 abbrev kind : tie.After-opened2 → Notion
