@@ -1,6 +1,6 @@
-// Verdicts: whether a gadget's table holds NI or SNI at an order, with the first breaking set where it does not, and the same for a range of ranks
-// of one size, so that machines can divide the search (scope, "Numbering and dividing" and "What each operation turns down"). Every argument may be
-// anything its type holds: what is out of range is refused, in the scope's order, and a refusal alters no lent number.
+// Verdicts: whether a gadget's table holds NI or SNI at an order, with the first breaking set where it does not, and the same for a range
+// of ranks of one size, so that machines can divide the search (scope, "Numbering and dividing" and "What each operation turns down").
+// Every argument may be anything its type holds: what is out of range is refused, in the scope's order, and a refusal alters no lent number.
 ghost use mathlib.Core.Path.{_≡_};
 ghost use Prim.Native.Nat.{_≤_};
 ghost use lib.ListN.{length};
@@ -77,8 +77,8 @@ fn opening(table: &[u8], shares: usize, masks: usize, notion: usize) -> Opened
     }
 }
 
-// Whether the table holds the notion (1, NI; 2, SNI) at an order. Where it does not, the first breaking set in rising size and rank is written,
-// rising, at the start of `set`.
+// Whether the table holds the notion (1, NI; 2, SNI) at an order. Where it does not, the first breaking set in rising size and rank is
+// written, rising, at the start of `set`.
 pub fn verdict(
     table: &[u8],
     shares: usize,
@@ -104,13 +104,13 @@ pub fn verdict(
             if set.len() < order {
                 return VerdictAnswer::Refused(Refusal::BufferTooShort);
             }
-            let mut probes = [0u16; 7];
+            let mut probes = [0u16; MAX_SIZE];
             let size = search::first_breaking(table, kind, order, &mut probes);
             if size == 0 {
                 return VerdictAnswer::Holds;
             }
             write(&probes[0..size], set);
-            VerdictAnswer::Broken { size: size }
+            VerdictAnswer::Broken { size }
         }
     }
 }
@@ -148,24 +148,13 @@ pub fn range_check(
             if all < to {
                 return RangeAnswer::Refused(Refusal::RanksOutOfRange);
             }
-            let mut probes = [0u16; 7];
-            let rank = search::first_breaking_rank(
-                table,
-                &counts,
-                kind,
-                size,
-                from,
-                to,
-                &mut probes,
-            );
+            let mut probes = [0u16; MAX_SIZE];
+            let rank = search::first_rank(table, &counts, kind, size, from, to, &mut probes);
             if to <= rank {
                 return RangeAnswer::Clean;
             }
             write(&probes[0..size], set);
-            RangeAnswer::Found {
-                size: size,
-                rank: rank,
-            }
+            RangeAnswer::Found { size, rank }
         }
     }
 }

@@ -53,7 +53,7 @@ pub fn first_breaking(table: &[u8], notion: Notion, order: usize, probes: &mut [
 }
 
 // The first breaking rank from `from` on, with its set at the start of `probes`; `to` where none up to there breaks.
-pub fn first_breaking_rank(
+pub fn first_rank(
     table: &[u8],
     counts: &[u64; 4104],
     notion: Notion,

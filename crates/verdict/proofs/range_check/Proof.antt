@@ -97,11 +97,11 @@ returns-4 c =
     (t .if2 .left) (c .before .if3 .left)
     (omega (arith, c .before .before .count .ensures, c .if4 .taken)))
 
-slice-aggregate-first-breaking-rank : tie.Need-slice-aggregate-first-breaking-rank
-slice-aggregate-first-breaking-rank c = search needs
+slice-aggregate-first-rank : tie.Need-slice-aggregate-first-rank
+slice-aggregate-first-rank c = search needs
 
-first-breaking-rank-requires : tie.Need-first-breaking-rank-requires
-first-breaking-rank-requires c κs =
+first-rank-requires : tie.Need-first-rank-requires
+first-rank-requires c κs =
     let p = passed (c .before .before) in
     (search needs, (range-bytes _ _ _ _ _ _ _ _ _ p, search needs, search needs, search needs, p .ends))
 
@@ -110,7 +110,7 @@ returns-5 c =
     let e = c .before .before .before .before .before in
     let a = e .before .before .before .before .before .before .before .before .before .before .before .before .before .args in
     promised (a .set .now)
-    (range-clean _ _ _ _ _ _ _ _ _ (passed e) _ _ (c .before .before .first-breaking-rank .ensures)
+    (range-clean _ _ _ _ _ _ _ _ _ (passed e) _ _ (c .before .before .first-rank .ensures)
     (c .if5 .taken))
 
 sub-write : tie.Need-sub-write
@@ -141,7 +141,7 @@ returns-7 c =
     let e = q .before .before .before .before .before in
     let a = e .before .before .before .before .before .before .before .before .before .before .before .before .before .args in
     promised (a .set .now)
-    (range-found _ _ _ _ _ _ _ _ _ (passed e) _ _ (q .before .before .first-breaking-rank .ensures)
+    (range-found _ _ _ _ _ _ _ _ _ (passed e) _ _ (q .before .before .first-rank .ensures)
     (q .if5 .left) _
     (c .before .before .write .ensures))
 
@@ -158,8 +158,8 @@ range-check-spec =
     count-requires
     returns-3
     returns-4
-    slice-aggregate-first-breaking-rank
-    first-breaking-rank-requires
+    slice-aggregate-first-rank
+    first-rank-requires
     returns-5
     sub-write
     part-write-start

@@ -1,4 +1,4 @@
--- `verdict::search::first_breaking_rank` meets its contract: before each turn nothing was found in the ranks below, and one that breaks is then the
+-- `verdict::search::first_rank` meets its contract: before each turn nothing was found in the ranks below, and one that breaks is then the
 -- first. Assumes nothing.
 use Prim.Native.Nat.{_-_, _≤_}
 use mathlib.Core.Path.{_≡_, refl, sym, _∙_}
@@ -7,8 +7,8 @@ use borrow.Author.Needs.{needs}
 use Rattle.records.specs.Layout.{wireCount}
 use Rattle.verdict.specs.Search.{isBreaking}
 use Rattle.verdict.proofs.Turns.{RangeClean, rank-start, rank-next, rank-found, rank-none}
-use Rattle.verdict.proofs.search.first_breaking_rank.Statement.{statement}
-use Rattle.verdict.proofs.search.first_breaking_rank.Tie as tie
+use Rattle.verdict.proofs.search.first_rank.Statement.{statement}
+use Rattle.verdict.proofs.search.first_rank.Tie as tie
 
 abbrev Inv-loop : tie.InvT-loop
 Inv-loop table counts notion size from to probes₀ wires rank₀ probes rank =
@@ -51,8 +51,8 @@ returns-2 : tie.Need-returns-2 Inv-loop μ-loop
 returns-2 c =
     let l = c .before .loop in rank-none _ _ _ _ _ _ _ (l .inv .2) (l .inv .3) (c .loop-test .left) (l .inv .0)
 
-pub first-breaking-rank-spec : {M : Type 1} → statement M
-first-breaking-rank-spec =
+pub first-rank-spec : {M : Type 1} → statement M
+first-rank-spec =
     tie.close
     (tie.spec
     Inv-loop
