@@ -25,7 +25,8 @@ use Rattle.verdict.specs.Search.{searched, stretch, isBreaking}
 use Rattle.verdict.specs.Answers.{wrongNotion, notionOf, written, firstShown, firstRanked, verdictOf, rangeCheck}
 use Rattle.verdict.specs.Jobs.{found, broken, Ordered, Asked}
 use Rattle.verdict.proofs.Admitting.{opened-told, opened-answer}
-use Rattle.verdict.proofs.Entries.{verdict-answer, range-answer}
+use Rattle.verdict.proofs.Entries.{verdict-answer}
+use Rattle.verdict.proofs.Ranges.{range-answer}
 
 passes : (table : List ℕ) (shares masks : ℕ) → Accepted table shares masks → values [] ≡ tableCheck table shares masks
 passes table shares masks h = sym (tested-answer table shares masks refusal (values []) h)

@@ -1,42 +1,36 @@
--- The answers of the two entries, path by path. Where a test refuses, nothing was written; else the search's result decides.
+-- The verdict's answers, path by path. Where a test refuses, nothing was written; else the search's result decides.
 --     searched-decided, stretch-decided     the code's test over all bits of a record finds the sets that the gadget's shares and masks give
 --     opened-for, short                     what the first tests say: the notion, and a table of at most 512 wires
 --     Promise, verdict-answer               the whole of a verdict's promise; its answer after the first tests
 --     before, order-low, order-high, no-room, found-none, found-set     the verdict's answers
 --     Passed, bytes, seven, size-within     all tests of a verdict passed: the table's bytes, the order and the size that was found are within limits
---     range-answer                          a range check's answer after the first tests
---     range-before, size-large, range-room, ranks-low, ranks-high, range-clean, range-found     its answers
---     PassedRange, range-bytes              all tests of a range check passed
 use Prim.Native.Nat.{ℕ, suc, _-_, _%_, _≤_, _<_}
 use native.Mathlib.Omega.{arith}
 use mathlib.Core.Path.{_≡_, refl, sym, _∙_, ap, ap₂}
-use mathlib.Core.Bool.{Bool, true, cond, not, _&&_, and-false}
+use mathlib.Core.Bool.{Bool, true, cond, not, and-false}
 use mathlib.Core.List.{List, [], _∷_, map}
 use borrow.Author.Tests.{le-leb, lt-leb, le-ltb, lt-ltb, ltb-false}
 use lib.Dec.{ltb, leb, eqb}
 use lib.ListN.{length, take, drop}
 use lib.Seq.{take-at}
 use Rattle.basics.specs.Folds.{keep}
-use Rattle.basics.specs.Told.{Lent, values, refusal, turnedDown}
+use Rattle.basics.specs.Told.{Lent, values, turnedDown}
 use Rattle.basics.proofs.Tests.{or-none}
 use Rattle.wires.specs.declared.Notion.{Notion}
 use Rattle.wires.specs.Wires.{breaks}
 use Rattle.records.specs.Layout.{wireAt, wireCount}
 use Rattle.table.proofs.Entries.{shares-high, set-decided}
-use Rattle.counts.specs.Counts.{binom}
 use Rattle.sets.specs.Order.{revolving, setAt, isSet}
-use Rattle.sets.proofs.Rising.{isSet-parts}
-use Rattle.sets.proofs.Revolving.{revolving-length, set-at-is-set, rank-of-set}
+use Rattle.sets.proofs.Revolving.{revolving-length, set-at-is-set}
 use Rattle.verdict.specs.declared.Refusal.{Refusal}
 use Rattle.verdict.specs.declared.Refusal.the-variants.{OrderOutOfRange, BufferTooShort}
 use Rattle.verdict.specs.declared.Opened.{Opened}
 use Rattle.verdict.specs.declared.VerdictAnswer.{VerdictAnswer}
-use Rattle.verdict.specs.declared.RangeAnswer.{RangeAnswer}
-use Rattle.verdict.specs.Search.{searched, stretch, isBreaking, first, FirstSet, FirstRank}
-use Rattle.verdict.specs.Answers.{refusalNumber, verdictTold, rangeTold, wrongOrder, notionOf, openedTold, opens, written, firstShown, verdictOf, firstRanked, rangeCheck}
+use Rattle.verdict.specs.Search.{searched, stretch, isBreaking, first, FirstSet}
+use Rattle.verdict.specs.Answers.{refusalNumber, verdictTold, wrongOrder, notionOf, openedTold, opens, written, firstShown, verdictOf}
 use Rattle.verdict.specs.Guarantee.{Guarantee}
 use Rattle.verdict.proofs.Keeping.{each-place, each-take, each-drop, keep-same}
-use Rattle.verdict.proofs.Turns.{set-inside, rank-first}
+use Rattle.verdict.proofs.Turns.{set-inside}
 use Rattle.verdict.proofs.Admitting.{Opens, opens-notion, opened-answer, opened-refusal}
 use Rattle.verdict.proofs.Watching.{each-searched, shown-none, holds, broken, refused}
 
@@ -183,106 +177,3 @@ module _ (table : List ℕ) (shares masks notion order : ℕ) (buffer : List ℕ
               guarantee = broken table shares masks notion order size held s later e k
                   (ap₂ {C = List ℕ} take k copied ∙ take-at s (drop (length s) buffer) (length s) refl);
             }
-
--- ---- the range check
-
-module _ (table : List ℕ) (shares masks notion size from to : ℕ) (buffer : List ℕ) where
-  abbrev all : ℕ
-  all = binom (wireCount table) size
-
-  abbrev pub range-answer : Lent
-  range-answer =
-      cond (ltb 7 size) (turnedDown 17 buffer)
-      (cond (ltb (length buffer) size) (turnedDown 16 buffer)
-      (cond (not (leb from to && leb to all)) (turnedDown 18 buffer)
-      (firstRanked (wireCount table) (keep (isBreaking (notionOf notion) table shares masks) (stretch (wireCount table) size from to)) buffer)))
-
-  -- what the entry is to tell
-  abbrev asked : Lent
-  asked = rangeCheck table shares masks notion size from to buffer
-
-  pub range-before : (number : ℕ) → refusal number ≡ opens table shares masks notion → turnedDown number buffer ≡ asked
-  range-before number e = sym (opened-refusal table shares masks notion (λ number. turnedDown number buffer) range-answer number e)
-
-  module _ (kind : Notion) (told : openedTold (Opened.For kind) ≡ opens table shares masks notion) where
-    own-range : range-answer ≡ asked
-    own-range = sym (opened-answer table shares masks notion (λ number. turnedDown number buffer) range-answer kind
-        (opened-for table shares masks notion kind told))
-
-    pub size-large : 7 < size → turnedDown 17 buffer ≡ asked
-    size-large h = let e : turnedDown 17 buffer ≡ range-answer = simp (lt-ltb 7 size h) in e ∙ own-range
-
-    module _ (small : size ≤ 7) where
-      pub range-room : length buffer < size → turnedDown 16 buffer ≡ asked
-      range-room h = let e : turnedDown 16 buffer ≡ range-answer = simp (le-ltb 7 size small, lt-ltb (length buffer) size h) in e ∙ own-range
-
-      module _ (room : size ≤ length buffer) where
-        pub ranks-low : to < from → turnedDown 18 buffer ≡ asked
-        ranks-low h =
-            let e : turnedDown 18 buffer ≡ range-answer = simp (le-ltb 7 size small, le-ltb (length buffer) size room, lt-leb from to h) in e
-            ∙ own-range
-
-        pub ranks-high : from ≤ to → all < to → turnedDown 18 buffer ≡ asked
-        ranks-high rises h =
-            let e : turnedDown 18 buffer ≡ range-answer =
-            simp (le-ltb 7 size small, le-ltb (length buffer) size room, le-leb from to rises, lt-leb to all h) in
-            e ∙ own-range
-
--- the tests of a range check that lets the search begin
-pub record PassedRange (table : List ℕ) (shares masks notion size from to : ℕ) (buffer : List ℕ) (kind : Notion) : Type 0 where
-  pub told : openedTold (Opened.For kind) ≡ opens table shares masks notion
-  pub small : size ≤ 7
-  pub room : size ≤ length buffer
-  pub rises : from ≤ to
-  pub ends : to ≤ binom (wireCount table) size
-
-pub range-bytes : (table : List ℕ) (shares masks notion size from to : ℕ) (buffer : List ℕ) (kind : Notion)
-    → PassedRange table shares masks notion size from to buffer kind → length table ≤ 12288
-range-bytes table shares masks notion size from to buffer kind p = short table shares masks notion kind (p .told)
-
-module _ (table : List ℕ) (shares masks notion size from to : ℕ) (buffer : List ℕ) (kind : Notion)
-    (p : PassedRange table shares masks notion size from to buffer kind) (rank : ℕ) (probes : List ℕ)
-    (search : FirstRank (isBreaking kind table 8 64) (wireCount table) size from to rank probes) where
-  abbrev result : Lent
-  result = rangeCheck table shares masks notion size from to buffer
-
-  abbrev ranked : List (List ℕ)
-  ranked = keep (isBreaking (notionOf notion) table shares masks) (stretch (wireCount table) size from to)
-
-  same-sets : keep (isBreaking kind table 8 64) (stretch (wireCount table) size from to) ≡ ranked
-  same-sets = stretch-decided table shares masks notion kind (opened-for table shares masks notion kind (p .told)) size from to
-
-  shows-first : firstRanked (wireCount table) ranked buffer ≡ range-answer table shares masks notion size from to buffer
-  shows-first = simp (
-    le-ltb 7 size (p .small),
-    le-ltb (length buffer) size (p .room),
-    le-leb from to (p .rises),
-    le-leb to
-        (binom (wireCount table) size) (p .ends),
-  )
-
-  decides : (l : List (List ℕ)) → ranked ≡ l → firstRanked (wireCount table) l buffer ≡ result
-  decides l e = ap (λ (l : List (List ℕ)). firstRanked (wireCount table) l buffer) (sym e) ∙ shows-first
-      ∙ own-range table shares masks notion size from to buffer kind (p .told)
-
-  pub range-clean : to ≤ rank → rangeTold RangeAnswer.Clean buffer ≡ result
-  range-clean h =
-      let last : to ≡ rank = omega (arith, search .high) in
-      decides [] (sym same-sets ∙ ap (λ (k : ℕ). keep (isBreaking kind table 8 64) (stretch (wireCount table) size from k)) last
-      ∙ search .clean)
-
-  pub range-found : rank < to → (held : List ℕ) → held ≡ written (take (size - 0) probes) buffer
-      → rangeTold (RangeAnswer.Found size rank) held ≡ result
-  range-found h held wrote =
-      let n = wireCount table in
-      let set = setAt n size rank in
-      let found = search .found h in
-      let counted : rank < binom (wireCount table) size = omega (arith, p .ends) in
-      let first = rank-first (isBreaking kind table 8 64) n size from rank to (search .low) h (p .ends) (search .clean) (found .0) in
-      let all-of-it : size - 0 ≡ size = omega arith in
-      let long : size ≡ length set = sym (isSet-parts n size set (set-at-is-set n size rank counted) .0) in
-      let copied : held ≡ written set buffer =
-      wrote ∙ ap (λ (l : List ℕ). written l buffer) (ap (λ (i : ℕ). take i probes) all-of-it ∙ found .1) in
-      ap₂ (λ (k : ℕ) (l : List ℕ). record { told = values (k ∷ rank ∷ []); held = l }) long copied
-      ∙ ap (λ (r : ℕ). record { told = values (length set ∷ r ∷ []); held = written set buffer }) (sym (rank-of-set n size rank counted))
-      ∙ decides (set ∷ first .0) (sym same-sets ∙ first .1)

@@ -5,7 +5,6 @@
 --     each-place, at-place          of every element exactly when at every place
 --     each-append, each-parts       of two lists after one another exactly when of both
 --     each-take, each-drop          of a part
---     each-map                      something that follows
 --     keep-same          tests that say the same of every element keep the same ones
 --     keep-first         the first that is kept passes, and what holds of every element holds of it
 --     keep-place         it stands at a place, and the test fails at every place before
@@ -68,10 +67,6 @@ module _ {A : Type 0} (P : A → Type 0) where
   each-drop zero (x ∷ l) a = a
   each-drop (suc i) [] a = tt
   each-drop (suc i) (x ∷ l) a = each-drop i l (a .1)
-
-pub each-map : {A : Type 0} (P Q : A → Type 0) → ((x : A) → P x → Q x) → (l : List A) → Each P l → Each Q l
-each-map P Q g [] a = tt
-each-map P Q g (x ∷ l) a = (g x (a .0), each-map P Q g l (a .1))
 
 module _ {A : Type 0} where
   pub take-none : (l : List A) → take 0 l ≡ []

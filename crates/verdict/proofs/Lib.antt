@@ -1,10 +1,25 @@
+-- The theorems on verdicts.
+--     Keeping     the elements of a list that pass a test, and the first of them
+--     Turns       the turns of the search's loops
+--     Admitting   the tests that both entries begin with
+--     Writing     a set copied to the start of a buffer
+--     Watching    demand 3
+--     Entries     the verdict's answers, path by path
+--     Ranges      the range check's answers, path by path
+--     Accepting   what the entries accept, and what they answer then
+--     First       demand 2 in its own words
+--     Finds       demand 2 on the answers themselves
+--     Jobs        a search that is divided over machines
+--     Examples    the scope's texts, limits, and what demand 3 alone turns away
 pub mod Keeping
 pub mod Turns
 pub mod Admitting
 pub mod Writing
 pub mod Watching
 pub mod Entries
+pub mod Ranges
 pub mod Accepting
 pub mod First
+pub mod Finds
 pub mod Jobs
 pub mod Examples

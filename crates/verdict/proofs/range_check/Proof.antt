@@ -10,8 +10,9 @@ use Rattle.verdict.specs.declared.Opened.{Opened}
 use Rattle.verdict.specs.declared.RangeAnswer.{RangeAnswer}
 use Rattle.verdict.specs.Answers.{rangeTold, openedTold, opens, rangeCheck}
 use Rattle.verdict.specs.First.{RangeFinds}
-use Rattle.verdict.proofs.Entries.{PassedRange, short, range-bytes, range-before, size-large, range-room, ranks-low, ranks-high, range-clean, range-found}
-use Rattle.verdict.proofs.First.{range-finds}
+use Rattle.verdict.proofs.Entries.{short}
+use Rattle.verdict.proofs.Ranges.{PassedRange, range-bytes, range-before, size-large, range-room, ranks-low, ranks-high, range-clean, range-found}
+use Rattle.verdict.proofs.Finds.{range-finds}
 use Rattle.verdict.proofs.range_check.Statement.{statement}
 use Rattle.verdict.proofs.range_check.Tie as tie
 

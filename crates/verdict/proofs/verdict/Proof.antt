@@ -11,7 +11,7 @@ use Rattle.verdict.specs.Answers.{openedTold, opens, verdictTold, verdic
 use Rattle.verdict.specs.First.{VerdictFinds}
 use Rattle.verdict.specs.Guarantee.{Guarantee}
 use Rattle.verdict.proofs.Entries.{Promise, Passed, before, order-low, order-high, no-room, found-none, found-set, bytes, seven, size-within}
-use Rattle.verdict.proofs.First.{verdict-finds}
+use Rattle.verdict.proofs.Finds.{verdict-finds}
 use Rattle.verdict.proofs.verdict.Statement.{statement}
 use Rattle.verdict.proofs.verdict.Tie as tie
 
