@@ -1,28 +1,30 @@
 -- What the entries accept, and what they answer then.
 --     verdict-answered, range-answered     the first breaking set of the list that is searched
---     verdict-accepts, range-accepts       values are told exactly where no test turns the call down
+--     verdict-ordered, range-asked         values are told exactly where no test turns the call down
+--     verdict-accepts, range-accepts       the same, with the tests in the scope's words
+--     verdict-kept, range-kept             a refusal leaves the buffer as it was
 --     shown-nil, shown-set                 what a verdict's answer says of that list: it is empty, or it begins with the set
 --     ranked-nil, ranked-set               and what a range check's says
-use Prim.Native.Nat.{ℕ, _≤_}
+use Prim.Native.Nat.{ℕ, _≤_, _<_}
 use native.Mathlib.Omega.{arith}
 use mathlib.Core.Path.{_≡_, refl, sym, _∙_, ap, ap₂}
-use mathlib.Core.Logic.{_↔_}
-use mathlib.Core.Bool.{Bool, true, false, cond, not, _&&_}
+use mathlib.Core.Logic.{_↔_, _⊎_, inl, inr}
+use mathlib.Core.Bool.{Bool, true, false, cond, not, _&&_, _||_}
 use mathlib.Core.List.{List, [], _∷_}
-use borrow.Author.Tests.{le-leb, le-ltb, lt-ltb, leb-true, ltb-true, ltb-false}
-use lib.Dec.{ltb, leb}
+use borrow.Author.Tests.{le-leb, le-ltb, lt-ltb, leb-true, ltb-true, ltb-false, eqb-true, not-false}
+use lib.Dec.{ltb, leb, eqb}
 use lib.ListN.{length, take, drop}
 use lib.Seq.{take-append-seam}
-use Rattle.basics.specs.Folds.{keep}
+use Rattle.basics.specs.Folds.{some, keep, upTo}
 use Rattle.basics.specs.Told.{Lent, values, refusal, turnedDown}
-use Rattle.basics.proofs.Tests.{and-left, and-right}
-use Rattle.records.specs.Layout.{wireCount}
-use Rattle.table.specs.Answers.{tableCheck}
-use Rattle.table.proofs.Entries.{values-refusal, Accepted, accepted, tested-answer}
+use Rattle.basics.proofs.Tests.{and-left, and-right, or-cases}
+use Rattle.records.specs.Layout.{recordAt, wireCount}
+use Rattle.table.specs.Answers.{wrongShares, wrongLength, wrongRecord, tableCheck}
+use Rattle.table.proofs.Entries.{values-refusal, Accepted, accepted, Sound, accepted-exactly, tested-answer}
 use Rattle.counts.specs.Counts.{binom}
 use Rattle.sets.specs.Order.{rankOf}
 use Rattle.verdict.specs.Search.{searched, stretch, isBreaking}
-use Rattle.verdict.specs.Answers.{wrongNotion, notionOf, written, firstShown, firstRanked, verdictOf, rangeCheck}
+use Rattle.verdict.specs.Answers.{wrongNotion, wrongOrder, notionOf, written, firstShown, firstRanked, verdictOf, rangeCheck}
 use Rattle.verdict.specs.Jobs.{found, broken, Ordered, Asked}
 use Rattle.verdict.proofs.Admitting.{opened-told, opened-answer}
 use Rattle.verdict.proofs.Entries.{verdict-answer}
@@ -42,9 +44,9 @@ module _ (table : List ℕ) (shares masks notion order : ℕ) (buffer : List ℕ
       (notionOf notion) (record { sound = accepted table shares masks (o .sound); known = o .known; named = refl })
       ∙ shows
 
-  pub verdict-accepts : ((l : List ℕ) × (verdictOf table shares masks notion order buffer .told
+  pub verdict-ordered : ((l : List ℕ) × (verdictOf table shares masks notion order buffer .told
       ≡ values l)) ↔ Ordered table shares masks notion order buffer
-  verdict-accepts = (λ t. there (t .0) (t .1), back)
+  verdict-ordered = (λ t. there (t .0) (t .1), back)
     where
       there : (l : List ℕ) → verdictOf table shares masks notion order buffer .told ≡ values l → Ordered table shares masks notion order buffer
       there l e =
@@ -87,9 +89,9 @@ module _ (table : List ℕ) (shares masks notion size from to : ℕ) (buffer : L
       (notionOf notion) (record { sound = accepted table shares masks (o .sound); known = o .known; named = refl })
       ∙ shows
 
-  pub range-accepts : ((l : List ℕ) × (rangeCheck table shares masks notion size from to buffer .told ≡ values l))
+  pub range-asked : ((l : List ℕ) × (rangeCheck table shares masks notion size from to buffer .told ≡ values l))
       ↔ (Asked table shares masks notion size buffer × (from ≤ to) × (to ≤ binom (wireCount table) size))
-  range-accepts = (λ t. there (t .0) (t .1), back)
+  range-asked = (λ t. there (t .0) (t .1), back)
     where
       all : ℕ
       all = binom (wireCount table) size
@@ -125,6 +127,100 @@ module _ (table : List ℕ) (shares masks notion size from to : ℕ) (buffer : L
       back o =
           let t = told (keep (isBreaking (notionOf notion) table shares masks) (stretch (wireCount table) size from to)) in
           (t .0, ap (λ (a : Lent). a .told) (range-answered (o .0) (o .1) (o .2)) ∙ t .1)
+
+-- ---- in the scope's words
+
+known-notion : (notion : ℕ) → (wrongNotion notion ≡ false) ↔ ((notion ≡ 1) ⊎ (notion ≡ 2))
+known-notion notion = (λ e. there (or-cases (eqb notion 1) (eqb notion 2) (not-false (eqb notion 1 || eqb notion 2) e)), back)
+  where
+    there : (eqb notion 1 ≡ true) ⊎ (eqb notion 2 ≡ true) → (notion ≡ 1) ⊎ (notion ≡ 2)
+    there (inl e) = inl (eqb-true notion 1 e)
+    there (inr e) = inr (eqb-true notion 2 e)
+
+    back : (notion ≡ 1) ⊎ (notion ≡ 2) → wrongNotion notion ≡ false
+    back (inl e) = ap wrongNotion e
+    back (inr e) = ap wrongNotion e
+
+pub verdict-accepts : (table : List ℕ) (shares masks notion order : ℕ) (buffer : List ℕ)
+    → ((l : List ℕ) × (verdictOf table shares masks notion order buffer .told ≡ values l))
+    ↔ (Sound table shares masks × ((notion ≡ 1) ⊎ (notion ≡ 2)) × (1 ≤ order) × (order < shares) × (order ≤ length buffer))
+verdict-accepts table shares masks notion order buffer = (
+  λ t. let o = verdict-ordered table shares masks notion order buffer .0 t in
+      (accepted-exactly table shares masks .0 (o .sound), known-notion notion .0 (o .known), o .low, o .high, o .room),
+  λ h. verdict-ordered table shares masks notion order buffer .1
+      (record { sound = accepted-exactly table shares masks .1 (h .0); known = known-notion notion .1 (h .1); low = h .2; high = h .3; room = h .4 }),
+)
+
+pub range-accepts : (table : List ℕ) (shares masks notion size from to : ℕ) (buffer : List ℕ)
+    → ((l : List ℕ) × (rangeCheck table shares masks notion size from to buffer .told ≡ values l))
+    ↔ (Sound table shares masks × ((notion ≡ 1) ⊎ (notion ≡ 2)) × (size ≤ 7) × (size ≤ length buffer) × (from ≤ to)
+    × (to ≤ binom (wireCount table) size))
+range-accepts table shares masks notion size from to buffer = (
+  λ t. let o = range-asked table shares masks notion size from to buffer .0 t in
+      (accepted-exactly table shares masks .0 (o .0 .sound), known-notion notion .0 (o .0 .known), o .0 .small, o .0 .room, o .1, o .2),
+  λ h. range-asked table shares masks notion size from to buffer .1 (
+    record {
+      sound = accepted-exactly table shares masks .1 (h .0);
+      known = known-notion notion .1
+          (h .1);
+      small = h .2;
+      room = h .3;
+    },
+    h .4,
+    h .5,
+  ),
+)
+
+-- ---- a refusal
+
+module _ (table : List ℕ) (shares masks notion : ℕ) (buffer : List ℕ) (number : ℕ) where
+  abbrev bad : Bool
+  bad = some (λ wire. wrongRecord shares masks (recordAt table wire)) (upTo (wireCount table))
+
+  pub verdict-kept : (order : ℕ) → verdictOf table shares masks notion order buffer .told ≡ refusal number
+      → verdictOf table shares masks notion order buffer .held ≡ buffer
+  verdict-kept order e =
+      go (wrongShares shares masks) (wrongLength table) bad (wrongNotion notion) (wrongOrder shares order) (ltb (length buffer) order)
+      (keep (isBreaking (notionOf notion) table shares masks) (searched (wireCount table) order)) e
+    where
+      tests : Bool → Bool → Bool → Bool → Bool → Bool → List (List ℕ) → Lent
+      tests a b c d f g l =
+          cond a (turnedDown 11 buffer) (cond b (turnedDown 12 buffer) (cond c (turnedDown 13 buffer) (cond d (turnedDown 14 buffer)
+          (cond f (turnedDown 15 buffer) (cond g (turnedDown 16 buffer) (firstShown l buffer))))))
+
+      go : (a b c d f g : Bool) (l : List (List ℕ)) → tests a b c d f g l .told ≡ refusal number → tests a b c d f g l .held ≡ buffer
+      go true b c d f g l e = refl
+      go false true c d f g l e = refl
+      go false false true d f g l e = refl
+      go false false false true f g l e = refl
+      go false false false false true g l e = refl
+      go false false false false false true l e = refl
+      go false false false false false false [] e = refl
+      go false false false false false false (s ∷ later) e = absurd (values-refusal (length s ∷ []) number e)
+
+  pub range-kept : (size from to : ℕ) → rangeCheck table shares masks notion size from to buffer .told ≡ refusal number
+      → rangeCheck table shares masks notion size from to buffer .held ≡ buffer
+  range-kept size from to e =
+      go (wrongShares shares masks) (wrongLength table) bad (wrongNotion notion) (ltb 7 size) (ltb (length buffer) size)
+      (not (leb from to && leb to (binom (wireCount table) size)))
+      (keep (isBreaking (notionOf notion) table shares masks) (stretch (wireCount table) size from to)) e
+    where
+      tests : Bool → Bool → Bool → Bool → Bool → Bool → Bool → List (List ℕ) → Lent
+      tests a b c d f g h l =
+          cond a (turnedDown 11 buffer) (cond b (turnedDown 12 buffer) (cond c (turnedDown 13 buffer) (cond d (turnedDown 14 buffer)
+          (cond f (turnedDown 17 buffer) (cond g (turnedDown 16 buffer) (cond h (turnedDown 18 buffer) (firstRanked (wireCount table) l buffer)))))))
+
+      go : (a b c d f g h : Bool) (l : List (List ℕ)) → tests a b c d f g h l .told ≡ refusal number → tests a b c d f g h l .held ≡ buffer
+      go true b c d f g h l e = refl
+      go false true c d f g h l e = refl
+      go false false true d f g h l e = refl
+      go false false false true f g h l e = refl
+      go false false false false true g h l e = refl
+      go false false false false false true h l e = refl
+      go false false false false false false true l e = refl
+      go false false false false false false false [] e = refl
+      go false false false false false false false (s ∷ later) e =
+          absurd (values-refusal (length s ∷ rankOf (wireCount table) s ∷ []) number e)
 
 -- ---- back from an answer to the list
 

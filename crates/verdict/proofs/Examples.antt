@@ -1,12 +1,15 @@
 -- Examples, proved by running the definitions: the scope's texts A, B and C, a break that takes two wires, and the refusals on both sides
 -- of their limits.
---     texts, two-wires, ranges, verdict-refusals, range-refusals, empty-table     what is told
+--     texts, two-wires, three-wires, ranges, verdict-refusals, range-refusals, empty-table     what is told
+--     numbers     every answer in numbers
+--     rank-refused, later-refused     what demand 2's clauses turn away
 --     holds-refused, wire-0-refused, broken-refused     what demand 3's clause alone turns away
 --     pair     a table in which no wire breaks by itself, and wires 1 and 2 together do
-use Prim.Native.Nat.{ℕ}
+use Prim.Native.Nat.{ℕ, _≤_, _<_}
 use native.Mathlib.Nat.{le-refl}
 use native.Mathlib.Omega.{arith}
 use mathlib.Core.Path.{_≡_, refl}
+use mathlib.Core.Logic.{inl, inr}
 use mathlib.Core.Bool.{xor}
 use mathlib.Core.List.{List, [], _∷_, _++_, map}
 use lib.ListN.{take}
@@ -19,11 +22,17 @@ use Rattle.records.specs.Words.{bit}
 use Rattle.records.specs.Layout.{wireAt}
 use Rattle.counts.specs.Counts.{binom}
 use Rattle.sets.specs.Order.{revolving}
+use Rattle.sets.specs.declared.JobAnswer.{JobAnswer}
+use Rattle.sets.specs.Answers.{jobTold}
+use Rattle.table.specs.declared.Refusal.the-variants.{SharesOrMasks, TableLength, RecordOutOfRange}
 use Rattle.table.proofs.Examples.{record8, tableA, tableB, tableC}
 use Rattle.verdict.specs.declared.Refusal.{Refusal}
+use Rattle.verdict.specs.declared.Refusal.the-variants.{Table, NoSuchNotion, OrderOutOfRange, BufferTooShort, SizeTooLarge, RanksOutOfRange}
+use Rattle.verdict.specs.declared.RangeAnswer.{RangeAnswer}
 use Rattle.verdict.specs.declared.VerdictAnswer.{VerdictAnswer}
 use Rattle.verdict.specs.Search.{searched, isBreaking}
-use Rattle.verdict.specs.Answers.{verdictOf, rangeCheck}
+use Rattle.verdict.specs.Answers.{refusalNumber, verdictTold, rangeTold, verdictOf, rangeCheck}
+use Rattle.verdict.specs.First.{NotAfter, VerdictFinds, RangeFinds}
 use Rattle.verdict.specs.Guarantee.{Guarantee}
 use Rattle.verdict.proofs.Watching.{all-choose}
 
@@ -62,6 +71,16 @@ pub ranges : (rangeCheck pair 3 1 1 2 0 6 room ≡ gives (2 ∷ 1 ∷ []) 1 2 9)
 unfolding isBreaking revolving binom breaks countA masked beyond bit upTo xor
 ranges = (refl, refl, refl, refl, refl, refl, refl)
 
+-- of four shares: a0 + r0; a1 + r0 + r1; a2 + a3 + r1; a1 + r0 + r1 again, outer
+abbrev chain : List ℕ
+chain = record8 0 0 1 1 0 0 0 ++ record8 0 0 3 2 0 0 0 ++ record8 0 0 2 12 0 0 0 ++ record8 0 0 3 2 0 1 0
+
+-- three wires show all of a, and no two do; wires 0, 2 and 3 show it too, at a later rank
+pub three-wires : (map (λ order. verdictOf chain 4 2 1 order room) (1 ∷ 2 ∷ 3 ∷ []) ≡ gives [] 9 9 9 ∷ gives [] 9 9 9 ∷ gives (3 ∷ []) 0 1 2 ∷ [])
+    × (rangeCheck chain 4 2 1 3 0 4 room ≡ gives (3 ∷ 0 ∷ []) 0 1 2) × (rangeCheck chain 4 2 1 3 1 4 room ≡ gives (3 ∷ 1 ∷ []) 0 2 3)
+unfolding searched isBreaking revolving binom breaks countA masked beyond bit upTo xor
+three-wires = (refl, refl, refl)
+
 -- 14, 15 and 16 of a verdict, on both sides, and which comes first
 pub verdict-refusals : (map (λ notion. verdictOf pair 3 1 notion 9 []) (0 ∷ 3 ∷ [])
     ≡ record { told = refusal 14; held = [] } ∷ record { told = refusal 14; held = [] } ∷ [])
@@ -88,6 +107,43 @@ pub empty-table : (verdictOf [] 8 64 2 7 (9 ∷ 9 ∷ 9 ∷ 9 ∷ 9 ∷ 9 ∷ 9 
     × (rangeCheck [] 8 64 2 1 0 0 room ≡ gives [] 9 9 9) × (rangeCheck [] 8 64 2 1 0 1 room ≡ turns 18)
 unfolding searched isBreaking revolving binom breaks countA masked beyond bit upTo xor
 empty-table = (refl, refl, refl)
+
+-- ---- answers in numbers
+
+-- the number of every refusal, and what every answer tells; a buffer longer than the largest set is told whole
+pub numbers : (map refusalNumber (Table SharesOrMasks ∷ Table TableLength ∷ Table RecordOutOfRange ∷ NoSuchNotion ∷ OrderOutOfRange ∷ BufferTooShort
+    ∷ SizeTooLarge ∷ RanksOutOfRange ∷ []) ≡ 11 ∷ 12 ∷ 13 ∷ 14 ∷ 15 ∷ 16 ∷ 17 ∷ 18 ∷ [])
+    × ((why : Refusal) (held : List ℕ) → verdictTold (VerdictAnswer.Refused why) held ≡ record { told = refusal (refusalNumber why); held = held })
+    × ((held : List ℕ) → verdictTold VerdictAnswer.Holds held ≡ record { told = values []; held = held })
+    × ((size : ℕ) (held : List ℕ) → verdictTold (VerdictAnswer.Broken size) held ≡ record { told = values (size ∷ []); held = held })
+    × ((why : Refusal) (held : List ℕ) → rangeTold (RangeAnswer.Refused why) held ≡ record { told = refusal (refusalNumber why); held = held })
+    × ((held : List ℕ) → rangeTold RangeAnswer.Clean held ≡ record { told = values []; held = held })
+    × ((size rank : ℕ) (held : List ℕ) → rangeTold (RangeAnswer.Found size rank) held ≡ record { told = values (size ∷ rank ∷ []); held = held })
+    × ((from to : ℕ) → jobTold (JobAnswer.Ranks from to) ≡ values (from ∷ to ∷ []))
+numbers = (
+  refl,
+  λ why held. refl,
+  λ held. refl,
+  λ size held. refl,
+  λ why held. refl,
+  λ held. refl,
+  λ size rank held. refl,
+  λ from to. refl,
+)
+
+-- a rank that is one too high, and a breaking set that is not the first, are not what the clauses of demand 2 let pass
+pub rank-refused : RangeFinds (RangeAnswer.Found 2 2) pair 3 1 1 2 0 6 room (1 ∷ 2 ∷ 9 ∷ []) → ⊥
+unfolding revolving
+rank-refused g = let e = g .found 2 2 refl .2 .stands in let z : _≡_ {A = ℕ} 0 1 = cc in omega (arith, z)
+
+pub later-refused : VerdictFinds (VerdictAnswer.Broken 2) pair 3 1 2 2 room (2 ∷ 3 ∷ 9 ∷ []) → ⊥
+unfolding isBreaking revolving breaks countA masked bit upTo xor
+later-refused g =
+    go (g .broken 2 refl .1 .first (1 ∷ 2 ∷ []) (record { distinct = refl; within = refl; few = le-refl 2 }) refl)
+  where
+    go : NotAfter 4 (2 ∷ 3 ∷ []) (1 ∷ 2 ∷ []) → ⊥
+    go (inl h) = let less : _<_ 2 2 = h in omega (arith, less)
+    go (inr h) = let late : _≤_ 3 1 = h .1 in omega (arith, late)
 
 -- ---- demand 3's clause by itself
 

@@ -6,7 +6,7 @@ use native.Mathlib.Omega.{arith}
 use mathlib.Core.Path.{_≡_, refl, sym, _∙_, ap, ap₂, subst}
 use mathlib.Core.List.{List, [], _∷_}
 use lib.ListN.{length, take, drop}
-use lib.Seq.{take-append-seam}
+use lib.Seq.{take-append-seam, drop-append-seam}
 use Rattle.basics.specs.Folds.{keep}
 use Rattle.basics.specs.Told.{Lent, values}
 use Rattle.records.specs.Layout.{wireCount}
@@ -17,11 +17,11 @@ use Rattle.sets.proofs.Revolving.{set-at-is-set}
 use Rattle.verdict.specs.declared.VerdictAnswer.{VerdictAnswer}
 use Rattle.verdict.specs.declared.RangeAnswer.{RangeAnswer}
 use Rattle.verdict.specs.Search.{searched, stretch, isBreaking}
-use Rattle.verdict.specs.Answers.{verdictTold, rangeTold, notionOf, firstShown, firstRanked, verdictOf, rangeCheck}
+use Rattle.verdict.specs.Answers.{refusalNumber, verdictTold, rangeTold, notionOf, firstShown, firstRanked, verdictOf, rangeCheck}
 use Rattle.verdict.specs.First.{FirstBreaking, FirstInRange, VerdictFinds, RangeFinds}
 use Rattle.verdict.specs.Jobs.{found, broken, Ordered, Asked}
 use Rattle.verdict.proofs.Watching.{all-whole}
-use Rattle.verdict.proofs.Accepting.{verdict-answered, range-answered, verdict-accepts, range-accepts, shown-nil, ranked-nil}
+use Rattle.verdict.proofs.Accepting.{verdict-kept, range-kept, verdict-answered, range-answered, verdict-ordered, range-asked, shown-nil, ranked-nil}
 use Rattle.verdict.proofs.First.{first-is, clean-exactly, finds-exactly}
 
 module _ (table : List ℕ) (shares masks notion order : ℕ) (buffer held : List ℕ) where
@@ -31,46 +31,51 @@ module _ (table : List ℕ) (shares masks notion order : ℕ) (buffer held : Lis
   abbrev breaking : List (List ℕ)
   breaking = keep (isBreaking (notionOf notion) table shares masks) (searched (wireCount table) order)
 
-  pub verdict-finds : (answer : VerdictAnswer) → verdictTold answer held ≡ told-verdict → VerdictFinds answer table shares masks notion order held
-  verdict-finds VerdictAnswer.Holds e = record {
-    holds = λ same. all-whole table shares masks notion order
-        (shown-nil buffer breaking (ap (λ (a : Lent). a .told) (sym (e ∙ verdict-answered table shares masks notion order buffer o))));
-    broken = λ size same. absurd (apart size same);
+  ordered : (l : List ℕ) → values l ≡ told-verdict .told → Ordered table shares masks notion order buffer
+  ordered l e = verdict-ordered table shares masks notion order buffer .0 (l, sym e)
+
+  answered : (l : List ℕ) → values l ≡ told-verdict .told → told-verdict ≡ firstShown breaking buffer
+  answered l e = verdict-answered table shares masks notion order buffer (ordered l e)
+
+  shown : (size : ℕ) (l : List (List ℕ)) → breaking ≡ l → verdictTold (VerdictAnswer.Broken size) held ≡ firstShown l buffer
+      → (drop size held ≡ drop size buffer) × FirstBreaking table shares masks notion order (take size held)
+  shown size [] p e = let f = ap (λ (a : Lent). a .told) e in let z : _≡_ {A = ℕ} 0 1 = cc in absurd (omega (arith, z))
+  shown size (s ∷ later) p e =
+      let f = ap (λ (a : Lent). a .told) e in
+      let long : size ≡ length s = cc in
+      let wrote = ap (λ (a : Lent). a .held) e in
+      let front : take size held ≡ s = ap₂ {C = List ℕ} take long wrote ∙ take-append-seam s (drop (length s) buffer) in (
+        ap₂ {C = List ℕ} drop long wrote ∙ drop-append-seam s (drop (length s) buffer) ∙ ap (λ (i : ℕ). drop i buffer) (sym long),
+        subst (FirstBreaking table shares masks notion order) (sym front) (first-is table shares masks notion order s later p),
+      )
+
+  pub verdict-finds : (answer : VerdictAnswer) → verdictTold answer held ≡ told-verdict
+      → VerdictFinds answer table shares masks notion order buffer held
+  verdict-finds VerdictAnswer.Holds e =
+      let f = ap (λ (a : Lent). a .told) e in
+      let shows = e ∙ answered [] f in
+      let none = shown-nil buffer breaking (ap (λ (a : Lent). a .told) (sym shows)) in record {
+        holds = λ same. (
+          ap (λ (a : Lent). a .held) shows ∙ ap (λ (l : List (List ℕ)). firstShown l buffer .held) none,
+          all-whole table shares masks notion order none,
+        );
+        broken = λ size same. let z : _≡_ {A = ℕ} 0 1 = cc in absurd (omega (arith, z));
+        refused = λ why same. let z : _≡_ {A = ℕ} 0 1 = cc in absurd (omega (arith, z));
+      }
+  verdict-finds (VerdictAnswer.Broken size) e =
+      let f = ap (λ (a : Lent). a .told) e in record {
+        holds = λ same. let z : _≡_ {A = ℕ} 0 1 = cc in absurd (omega (arith, z));
+        broken = λ other same. let k : size ≡ other = cc in
+            subst (λ (i : ℕ). (drop i held ≡ drop i buffer) × FirstBreaking table shares masks notion order (take i held)) k
+            (shown size breaking refl (e ∙ answered (size ∷ []) f));
+        refused = λ why same. let z : _≡_ {A = ℕ} 0 1 = cc in absurd (omega (arith, z));
+      }
+  verdict-finds (VerdictAnswer.Refused why) e = record {
+    holds = λ same. let z : _≡_ {A = ℕ} 0 1 = cc in absurd (omega (arith, z));
+    broken = λ size same. let z : _≡_ {A = ℕ} 0 1 = cc in absurd (omega (arith, z));
+    refused = λ other same.
+        ap (λ (a : Lent). a .held) e ∙ verdict-kept table shares masks notion buffer (refusalNumber why) order (ap (λ (a : Lent). a .told) (sym e));
   }
-    where
-      o : Ordered table shares masks notion order buffer
-      o = verdict-accepts table shares masks notion order buffer .0 ([], ap (λ (a : Lent). a .told) (sym e))
-
-      apart : (size : ℕ) → VerdictAnswer.Holds ≡ VerdictAnswer.Broken size → ⊥
-      apart size e = let z : _≡_ {A = ℕ} 0 1 = cc in omega (arith, z)
-  verdict-finds (VerdictAnswer.Broken size) e = record {
-    holds = λ same. absurd (apart same);
-    broken = λ other same. let k : size ≡ other = cc in
-        subst (λ (i : ℕ). FirstBreaking table shares masks notion order (take i held)) k
-        (shown breaking refl (e ∙ verdict-answered table shares masks notion order buffer o));
-  }
-    where
-      o : Ordered table shares masks notion order buffer
-      o = verdict-accepts table shares masks notion order buffer .0 (size ∷ [], ap (λ (a : Lent). a .told) (sym e))
-
-      apart : VerdictAnswer.Broken size ≡ VerdictAnswer.Holds → ⊥
-      apart e = let z : _≡_ {A = ℕ} 0 1 = cc in omega (arith, z)
-
-      shown : (l : List (List ℕ)) → breaking ≡ l → verdictTold (VerdictAnswer.Broken size) held ≡ firstShown l buffer
-          → FirstBreaking table shares masks notion order (take size held)
-      shown [] p e = let f = ap (λ (a : Lent). a .told) e in let z : _≡_ {A = ℕ} 0 1 = cc in let w : ⊥ = omega (arith, z) in absurd w
-      shown (s ∷ later) p e =
-          let f = ap (λ (a : Lent). a .told) e in
-          let long : size ≡ length s = cc in
-          let front : take size held ≡ s = ap₂ {C = List ℕ} take long (ap (λ (a : Lent). a .held) e) ∙ take-append-seam s (drop (length s) buffer) in
-          subst (FirstBreaking table shares masks notion order) (sym front) (first-is table shares masks notion order s later p)
-  verdict-finds (VerdictAnswer.Refused why) e = record { holds = λ same. absurd (none same); broken = λ size same. absurd (apart size same) }
-    where
-      none : VerdictAnswer.Refused why ≡ VerdictAnswer.Holds → ⊥
-      none e = let z : _≡_ {A = ℕ} 0 1 = cc in omega (arith, z)
-
-      apart : (size : ℕ) → VerdictAnswer.Refused why ≡ VerdictAnswer.Broken size → ⊥
-      apart size e = let z : _≡_ {A = ℕ} 0 1 = cc in omega (arith, z)
 
 module _ (table : List ℕ) (shares masks notion size from to : ℕ) (buffer held : List ℕ) where
   abbrev told-range : Lent
@@ -83,62 +88,61 @@ module _ (table : List ℕ) (shares masks notion size from to : ℕ) (buffer hel
   Accepts = Asked table shares masks notion size buffer × (from ≤ to) × (to ≤ binom (wireCount table) size)
 
   accepts : (l : List ℕ) → told-range .told ≡ values l → Accepts
-  accepts l e = range-accepts table shares masks notion size from to buffer .0 (l, e)
+  accepts l e = range-asked table shares masks notion size from to buffer .0 (l, e)
 
-  pub range-finds : (answer : RangeAnswer) → rangeTold answer held ≡ told-range → RangeFinds answer table shares masks notion size from to held
-  range-finds RangeAnswer.Clean e = record {
-    clean = λ same. clean-exactly table shares masks notion size from to buffer (o .0) (o .1) (o .2) .0
-        (answered ∙ ap (λ (l : List (List ℕ)). firstRanked (wireCount table) l buffer)
-        (ranked-nil buffer (wireCount table) ranges (ap (λ (a : Lent). a .told) (sym (e ∙ answered)))));
-    found = λ k rank same. absurd (apart k rank same);
+  listed : Accepts → told-range ≡ firstRanked (wireCount table) ranges buffer
+  listed o = range-answered table shares masks notion size from to buffer (o .0) (o .1) (o .2)
+
+  placed : Accepts → (k rank : ℕ) (l : List (List ℕ)) → rangeTold (RangeAnswer.Found k rank) held ≡ firstRanked (wireCount table) l buffer
+      → firstRanked (wireCount table) l buffer ≡ told-range
+      → (k ≡ size) × (drop size held ≡ drop size buffer) × FirstInRange table shares masks notion size from to (take size held) rank
+  placed o k rank [] e g = let f = ap (λ (a : Lent). a .told) e in let z : _≡_ {A = ℕ} 0 1 = cc in absurd (omega (arith, z))
+  placed o k rank (s ∷ later) e g =
+      let f = ap (λ (a : Lent). a .told) e in
+      let long : k ≡ length s = cc in
+      let place : rankOf (wireCount table) s ≡ rank = cc in
+      let wrote = ap (λ (a : Lent). a .held) e in
+      let first = finds-exactly table shares masks notion size from to buffer (o .0) (o .1) (o .2) s rank .0
+      (sym g ∙ ap (λ (r : ℕ). found s r buffer) place) in
+      let counted : rank < binom (wireCount table) size = omega (arith, first .high, o .2) in
+      let whole : size ≡ length s =
+      sym (isSet-parts (wireCount table) size (setAt (wireCount table) size rank) (set-at-is-set (wireCount table) size rank counted) .0)
+      ∙ ap length (first .stands) in
+      let front : take size held ≡ s = ap₂ {C = List ℕ} take whole wrote ∙ take-append-seam s (drop (length s) buffer) in (
+        long ∙ sym whole,
+        ap₂ {C = List ℕ} drop whole wrote ∙ drop-append-seam s (drop (length s) buffer) ∙ ap (λ (i : ℕ). drop i buffer) (sym whole),
+        subst (λ (t : List ℕ). FirstInRange table shares masks notion size from to t rank) (sym front) first,
+      )
+
+  pub range-finds : (answer : RangeAnswer) → rangeTold answer held ≡ told-range
+      → RangeFinds answer table shares masks notion size from to buffer held
+  range-finds RangeAnswer.Clean e =
+      let o = accepts [] (ap (λ (a : Lent). a .told) (sym e)) in
+      let shows = e ∙ listed o in
+      let none = ranked-nil buffer (wireCount table) ranges (ap (λ (a : Lent). a .told) (sym shows)) in record {
+        clean = λ same. (
+          ap (λ (a : Lent). a .held) shows ∙ ap (λ (l : List (List ℕ)). firstRanked (wireCount table) l buffer .held) none,
+          clean-exactly table shares masks notion size from to buffer (o .0) (o .1) (o .2) .0
+              (listed o ∙ ap (λ (l : List (List ℕ)). firstRanked (wireCount table) l buffer) none),
+        );
+        found = λ k rank same. let z : _≡_ {A = ℕ} 0 1 = cc in absurd (omega (arith, z));
+        refused = λ why same. let z : _≡_ {A = ℕ} 0 1 = cc in absurd (omega (arith, z));
+      }
+  range-finds (RangeAnswer.Found k rank) e =
+      let o = accepts (k ∷ rank ∷ []) (ap (λ (a : Lent). a .told) (sym e)) in record {
+        clean = λ same. let z : _≡_ {A = ℕ} 0 1 = cc in absurd (omega (arith, z));
+        found = λ other place same. let p : k ≡ other = cc in let q : rank ≡ place = cc in
+            subst (λ (i : ℕ). (i ≡ size) × (drop size held ≡ drop size buffer)
+            × FirstInRange table shares masks notion size from to (take size held) place) p
+            (subst (λ (r : ℕ). (k ≡ size) × (drop size held ≡ drop size buffer)
+            × FirstInRange table shares masks notion size from to (take size held) r) q
+            (placed o k rank ranges (e ∙ listed o) (sym (listed o))));
+        refused = λ why same. let z : _≡_ {A = ℕ} 0 1 = cc in absurd (omega (arith, z));
+      }
+  range-finds (RangeAnswer.Refused why) e = record {
+    clean = λ same. let z : _≡_ {A = ℕ} 0 1 = cc in absurd (omega (arith, z));
+    found = λ k rank same. let z : _≡_ {A = ℕ} 0 1 = cc in absurd (omega (arith, z));
+    refused = λ other same.
+        ap (λ (a : Lent). a .held) e ∙ range-kept table shares masks notion buffer (refusalNumber why) size from to
+        (ap (λ (a : Lent). a .told) (sym e));
   }
-    where
-      o : Accepts
-      o = accepts [] (ap (λ (a : Lent). a .told) (sym e))
-
-      answered : told-range ≡ firstRanked (wireCount table) ranges buffer
-      answered = range-answered table shares masks notion size from to buffer (o .0) (o .1) (o .2)
-
-      apart : (k rank : ℕ) → RangeAnswer.Clean ≡ RangeAnswer.Found k rank → ⊥
-      apart k rank e = let z : _≡_ {A = ℕ} 0 1 = cc in omega (arith, z)
-  range-finds (RangeAnswer.Found k rank) e = record {
-    clean = λ same. absurd (apart same);
-    found = λ other place same. let p : k ≡ other = cc in let q : rank ≡ place = cc in
-        subst (λ (i : ℕ). (i ≡ size) × FirstInRange table shares masks notion size from to (take size held) place) p
-        (subst (λ (r : ℕ). (k ≡ size) × FirstInRange table shares masks notion size from to (take size held) r) q
-        (shown ranges (e ∙ answered) (sym answered)));
-  }
-    where
-      o : Accepts
-      o = accepts (k ∷ rank ∷ []) (ap (λ (a : Lent). a .told) (sym e))
-
-      answered : told-range ≡ firstRanked (wireCount table) ranges buffer
-      answered = range-answered table shares masks notion size from to buffer (o .0) (o .1) (o .2)
-
-      apart : RangeAnswer.Found k rank ≡ RangeAnswer.Clean → ⊥
-      apart e = let z : _≡_ {A = ℕ} 0 1 = cc in omega (arith, z)
-
-      shown : (l : List (List ℕ)) → rangeTold (RangeAnswer.Found k rank) held ≡ firstRanked (wireCount table) l buffer
-          → firstRanked (wireCount table) l buffer ≡ told-range
-          → (k ≡ size) × FirstInRange table shares masks notion size from to (take size held) rank
-      shown [] e g = let f = ap (λ (a : Lent). a .told) e in let z : _≡_ {A = ℕ} 0 1 = cc in let w : ⊥ = omega (arith, z) in absurd w
-      shown (s ∷ later) e g =
-          let f = ap (λ (a : Lent). a .told) e in
-          let long : k ≡ length s = cc in
-          let place : rankOf (wireCount table) s ≡ rank = cc in
-          let first = finds-exactly table shares masks notion size from to buffer (o .0) (o .1) (o .2) s rank .0
-          (sym g ∙ ap (λ (r : ℕ). found s r buffer) place) in
-          let counted : rank < binom (wireCount table) size = omega (arith, first .high, o .2) in
-          let whole : length s ≡ size =
-          ap length (sym (first .stands)) ∙ isSet-parts (wireCount table) size (setAt (wireCount table) size rank)
-          (set-at-is-set (wireCount table) size rank counted) .0 in
-          let front : take size held ≡ s =
-          ap₂ {C = List ℕ} take (sym whole) (ap (λ (a : Lent). a .held) e) ∙ take-append-seam s (drop (length s) buffer) in
-          (long ∙ whole, subst (λ (t : List ℕ). FirstInRange table shares masks notion size from to t rank) (sym front) first)
-  range-finds (RangeAnswer.Refused why) e = record { clean = λ same. absurd (none same); found = λ k rank same. absurd (apart k rank same) }
-    where
-      none : RangeAnswer.Refused why ≡ RangeAnswer.Clean → ⊥
-      none e = let z : _≡_ {A = ℕ} 0 1 = cc in omega (arith, z)
-
-      apart : (k rank : ℕ) → RangeAnswer.Refused why ≡ RangeAnswer.Found k rank → ⊥
-      apart k rank e = let z : _≡_ {A = ℕ} 0 1 = cc in omega (arith, z)

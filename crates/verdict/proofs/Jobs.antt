@@ -1,5 +1,6 @@
 -- A search that is divided over machines answers what one machine would, for any division into jobs.
 --     job-accepts       `job` tells bounds exactly where the numbers of wires, of wires of a set and of jobs are within limits, and the job is one of them
+--     job-exactly       a job's answer is that of the range check from floor(i × N / j) up to, without, floor((i + 1) × N / j)
 --     jobs-clean        every job of a size is clean exactly when no set of the size breaks
 --     jobs-either       every job is clean, or a job finds a set and those before it are clean
 --     jobs-first        then what is found first over the jobs is the first breaking set of the size, with its rank
@@ -133,18 +134,27 @@ module _ (table : List ℕ) (shares masks notion size jobs : ℕ) (buffer : List
   told : (i : ℕ) → i < jobs → jobRanks n size i jobs ≡ values (bound i ∷ bound (suc i) ∷ [])
   told = job-told n size jobs wires (asked .small) (divided .some) (divided .few)
 
+  -- a job's answer is that of the range check between its bounds
+  pub job-exactly : (i : ℕ) → i < jobs → (answer : Lent) → JobAnswers table shares masks notion size jobs i buffer answer
+      ↔ (rangeCheck table shares masks notion size (bound i) (bound (suc i)) buffer ≡ answer)
+  job-exactly i h answer = (there, λ e. record { from = bound i; to = bound (suc i); told = told i h; answers = e })
+    where
+      there : JobAnswers table shares masks notion size jobs i buffer answer
+          → rangeCheck table shares masks notion size (bound i) (bound (suc i)) buffer ≡ answer
+      there j =
+          let p = j .told in
+          let q = told i h in
+          let e : bound i ≡ j .from = cc in
+          let f : bound (suc i) ≡ j .to = cc in
+          ap₂ (λ (a b : ℕ). rangeCheck table shares masks notion size a b buffer) e f ∙ j .answers
+
   job-answers : (i : ℕ) → i < jobs → (answer : Lent) → firstRanked n (of-job i) buffer ≡ answer
       → JobAnswers table shares masks notion size jobs i buffer answer
-  job-answers i h answer e = record { from = bound i; to = bound (suc i); told = told i h; answers = checked i h ∙ e }
+  job-answers i h answer e = job-exactly i h answer .1 (checked i h ∙ e)
 
   answers-job : (i : ℕ) → i < jobs → (answer : Lent) → JobAnswers table shares masks notion size jobs i buffer answer
       → firstRanked n (of-job i) buffer ≡ answer
-  answers-job i h answer j =
-      let p = j .told in
-      let q = told i h in
-      let e : bound i ≡ j .from = cc in
-      let f : bound (suc i) ≡ j .to = cc in
-      sym (checked i h) ∙ ap₂ (λ (a b : ℕ). rangeCheck table shares masks notion size a b buffer) e f ∙ j .answers
+  answers-job i h answer j = sym (checked i h) ∙ job-exactly i h answer .0 j
 
   clean-none : AllClean table shares masks notion size jobs buffer → keep test (revolving n size) ≡ []
   clean-none clean =

@@ -5,12 +5,13 @@
 --     all-whole                    where the search finds nothing, no set to watch breaks
 --     all-choose                   and then every set to watch has a choice of shares
 --     shown-none                   the first breaking set is one to watch, and has none
---     holds, broken, refused       the guarantee of each answer
+--     guarantee-holds, guarantee-broken     what the guarantee says of each answer
+--     holds, broken, refused       and that each answer has it
 use Prim.Native.Nat.{ℕ, zero, suc, _≤_, _<_}
 use native.Mathlib.Nat.{le-refl, le-of-suc-le-suc, eq-or-lt-of-le, not-suc-le-zero}
 use native.Mathlib.Omega.{arith}
 use mathlib.Core.Path.{_≡_, refl, sym, _∙_, ap, subst}
-use mathlib.Core.Logic.{_⊎_, inl, inr}
+use mathlib.Core.Logic.{_↔_, _⊎_, inl, inr}
 use mathlib.Core.Bool.{Bool, true, false, cond, true≢false}
 use mathlib.Core.List.{List, [], _∷_, map}
 use lib.ListN.{length, take}
@@ -134,35 +135,49 @@ module _ (table : List ℕ) (shares masks notion order : ℕ) where
       not-empty [] e = absurd (true≢false (sym e ∙ empty-breaks-nothing (notionOf notion) shares masks))
       not-empty (x ∷ s) e = omega arith
 
+  -- what the guarantee says of each answer
+  pub guarantee-holds : (held : List ℕ) → Guarantee VerdictAnswer.Holds table shares masks notion order held
+      ↔ ((set : List ℕ) → Watched table order set → HasChoice table shares masks notion set)
+  guarantee-holds held = (
+    λ g. g .holds-exactly (λ why same. let z : _≡_ {A = ℕ} 0 1 = cc in absurd (omega (arith, z))) .0 refl,
+    λ all. record {
+      holds-exactly = λ accepted. (λ e. all, λ h. refl);
+      broken-shows = λ size same. let z : _≡_ {A = ℕ} 0 1 = cc in absurd
+          (omega (arith, z));
+    },
+  )
+
+  pub guarantee-broken : (size : ℕ) (held : List ℕ) → Guarantee (VerdictAnswer.Broken size) table shares masks notion order held
+      ↔ Shown table shares masks notion order size held
+  guarantee-broken size held = (
+    λ g. g .broken-shows size refl,
+    λ shown. record {
+      holds-exactly = λ accepted. (
+        λ same. let z : _≡_ {A = ℕ} 0 1 = cc in absurd (omega (arith, z)),
+        λ all. absurd
+            (shown .no-choice (all (take size held) (shown .watched))),
+      );
+      broken-shows = λ other same. let k : size ≡ other = cc in subst (λ (i : ℕ). Shown table shares masks notion order i held) k shown;
+    },
+  )
+
   pub refused : (why : Refusal) (held : List ℕ) → Guarantee (VerdictAnswer.Refused why) table shares masks notion order held
-  refused why held = record { holds-exactly = λ none. absurd (none why refl); broken-shows = λ size e. absurd (apart size e) }
-    where
-      apart : (size : ℕ) → VerdictAnswer.Refused why ≡ VerdictAnswer.Broken size → ⊥
-      apart size e = let z : _≡_ {A = ℕ} 0 1 = cc in omega (arith, z)
+  refused why held = record {
+    holds-exactly = λ none. absurd (none why refl);
+    broken-shows = λ size same. let z : _≡_ {A = ℕ} 0 1 = cc in absurd
+        (omega (arith, z));
+  }
 
   pub holds : (held : List ℕ) → keep test (searched (wireCount table) order) ≡ [] → Guarantee VerdictAnswer.Holds table shares masks notion order held
-  holds held none = record { holds-exactly = λ accepted. (λ e. all-choose none, λ all. refl); broken-shows = λ size e. absurd (apart size e) }
-    where
-      apart : (size : ℕ) → VerdictAnswer.Holds ≡ VerdictAnswer.Broken size → ⊥
-      apart size e = let z : _≡_ {A = ℕ} 0 1 = cc in omega (arith, z)
+  holds held none = guarantee-holds held .1 (all-choose none)
 
   pub broken : (size : ℕ) (held s : List ℕ) (later : List (List ℕ)) → keep test (searched (wireCount table) order) ≡ s ∷ later → size ≡ length s
       → take size held ≡ s → Guarantee (VerdictAnswer.Broken size) table shares masks notion order held
-  broken size held s later found long front = record {
-    holds-exactly = λ accepted. (λ e. absurd (apart e), λ all. absurd (shown .2 (all s (shown .1))));
-    broken-shows = λ other e. let same : size ≡ other = cc in subst (λ (k : ℕ). Shown table shares masks notion order k held) same shows;
-  }
-    where
-      shown : (0 < length s) × Watched table order s × (HasChoice table shares masks notion s → ⊥)
-      shown = shown-none s later found
-
-      apart : VerdictAnswer.Broken size ≡ VerdictAnswer.Holds → ⊥
-      apart e = let z : _≡_ {A = ℕ} 0 1 = cc in omega (arith, z)
-
-      shows : Shown table shares masks notion order size held
-      shows = record {
+  broken size held s later found long front =
+      let shown = shown-none s later found in
+      guarantee-broken size held .1 (record {
         some = omega (arith, shown .0);
         whole = ap length front ∙ sym long;
         watched = subst (Watched table order) (sym front) (shown .1);
         no-choice = subst (λ (l : List ℕ). HasChoice table shares masks notion l → ⊥) (sym front) (shown .2);
-      }
+      })

@@ -88,7 +88,7 @@ pub fn verdict(
     set: &mut [u16],
 ) -> VerdictAnswer
     ensures { λ r. ⌜ verdictTold r (now (set .exit)) ≡ verdictOf (now (table .entry)) shares masks notion order (now (set .entry)) ⌝ }
-    ensures { λ r. ⌜ VerdictFinds r (now (table .entry)) shares masks notion order (now (set .exit)) ⌝ }
+    ensures { λ r. ⌜ VerdictFinds r (now (table .entry)) shares masks notion order (now (set .entry)) (now (set .exit)) ⌝ }
     ensures { λ r. ⌜ Guarantee r (now (table .entry)) shares masks notion order (now (set .exit)) ⌝ }
 {
     let opened = opening(table, shares, masks, notion);
@@ -128,7 +128,7 @@ pub fn range_check(
     set: &mut [u16],
 ) -> RangeAnswer
     ensures { λ r. ⌜ rangeTold r (now (set .exit)) ≡ rangeCheck (now (table .entry)) shares masks notion size from to (now (set .entry)) ⌝ }
-    ensures { λ r. ⌜ RangeFinds r (now (table .entry)) shares masks notion size from to (now (set .exit)) ⌝ }
+    ensures { λ r. ⌜ RangeFinds r (now (table .entry)) shares masks notion size from to (now (set .entry)) (now (set .exit)) ⌝ }
 {
     let opened = opening(table, shares, masks, notion);
     match opened {

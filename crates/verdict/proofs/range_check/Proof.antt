@@ -19,7 +19,7 @@ use Rattle.verdict.proofs.range_check.Tie as tie
 promised : {answer : RangeAnswer} {held table : List ℕ} {shares masks notion size from to : ℕ} (buffer : List ℕ)
     → rangeTold answer held ≡ rangeCheck table shares masks notion size from to buffer
     → (rangeTold answer held ≡ rangeCheck table shares masks notion size from to buffer)
-    × RangeFinds answer table shares masks notion size from to held
+    × RangeFinds answer table shares masks notion size from to buffer held
 promised {answer} {held} {table} {shares} {masks} {notion} {size} {from} {to} buffer e =
     (e, range-finds table shares masks notion size from to buffer held answer e)
 

@@ -18,7 +18,7 @@ use Rattle.verdict.proofs.verdict.Tie as tie
 promised : {answer : VerdictAnswer} {held table : List ℕ} {shares masks notion order : ℕ} {buffer : List ℕ}
     → Promise answer held table shares masks notion order buffer
     → (verdictTold answer held ≡ verdictOf table shares masks notion order buffer)
-    × (VerdictFinds answer table shares masks notion order held × Guarantee answer table shares masks notion order held)
+    × (VerdictFinds answer table shares masks notion order buffer held × Guarantee answer table shares masks notion order held)
 promised {answer} {held} {table} {shares} {masks} {notion} {order} {buffer} p =
     (p .equation, (verdict-finds table shares masks notion order buffer held answer (p .equation), p .guarantee))
 
