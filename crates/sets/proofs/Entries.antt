@@ -1,5 +1,6 @@
 -- What the entries tell, for all that they accept.
 --     count-told      the set count is the number of sets in the published list
+--     job-told, at-told     what `job` and `set_from_rank` tell within the limits
 --     told-once       every set is visited by exactly one job that `job` tells, at exactly one rank for which `set_from_rank` writes it
 --     rank-and-set    `rank_from_set` tells r of s exactly when `set_from_rank` writes s for r
 use Prim.Native.Nat.{ℕ, suc, _≤_, _<_}
@@ -15,6 +16,7 @@ use lib.ListN.{length, drop, replicate, length-replicate, drop-of-length-le}
 use Rattle.basics.specs.Told.{Lent, values, refusal}
 use Rattle.counts.specs.Counts.{binom}
 use Rattle.basics.proofs.Tests.{and-right}
+use Rattle.basics.proofs.Telling.{values-refusal}
 use Rattle.sets.specs.Order.{revolving, setAt, rankOf, rising, below, isSet}
 use Rattle.sets.specs.Division.{start, HasRank, ExactlyOne}
 use Rattle.sets.specs.Answers.{setCount, setFromRank, rankFromSet, jobRanks}
@@ -25,9 +27,6 @@ use Rattle.sets.proofs.Division.{visited-once, rank-counted}
 
 pub count-told : (n k : ℕ) → n ≤ 512 → k ≤ 7 → setCount n k ≡ values (length (revolving n k) ∷ [])
 count-told n k a b = simp (le-ltb 512 n a, le-ltb 7 k b, revolving-length n k)
-
-values-are : (x : ℕ) (y : List ℕ) (m : ℕ) → values (x ∷ y) ≡ refusal m → ⊥
-values-are x y m e = let z : _≡_ {A = ℕ} 0 1 = cc in omega arith
 
 -- a job's ranks, as told
 module _ (n k jobs : ℕ) (a : n ≤ 512) (b : k ≤ 7) (some : 0 < jobs) (c : jobs ≤ 65536) where
@@ -50,7 +49,7 @@ module _ (n k jobs : ℕ) (a : n ≤ 512) (b : k ≤ 7) (some : 0 < jobs) (c : j
           let e : t .from ≡ start (binom n k) jobs i = cc in
           let f : t .to ≡ start (binom n k) jobs (suc i) = cc in
           record { inside = d; from = omega (arith, t .low); to = omega (arith, t .high) }
-      go (no d) = absurd (values-are (t .from) (t .to ∷ []) 19 (sym (t .told) ∙ job-refused i (omega arith)))
+      go (no d) = absurd (values-refusal (t .from ∷ t .to ∷ []) 19 (sym (t .told) ∙ job-refused i (omega arith)))
 
 -- the set of a rank, as told
 module _ (n k : ℕ) (a : n ≤ 512) (b : k ≤ 7) where
@@ -74,11 +73,7 @@ module _ (n k : ℕ) (a : n ≤ 512) (b : k ≤ 7) where
       go (yes h) = h
       go (no h) =
           let e = sym (t filled room) ∙ at-refused r (omega arith) filled room in
-          let z : ⊥ = nothing-refused (ap (λ (l : Lent). l .told) e) in
-          absurd z
-        where
-          nothing-refused : values [] ≡ refusal 18 → ⊥
-          nothing-refused e = let z : _≡_ {A = ℕ} 0 1 = cc in omega arith
+          absurd (values-refusal [] 18 (ap (λ (l : Lent). l .told) e))
 
   told-at : (r : ℕ) (s : List ℕ) → SetTells n k r s → setAt n k r ≡ s
   told-at r s t =
@@ -111,7 +106,7 @@ module _ (n : ℕ) (s : List ℕ) (a : n ≤ 512) (b : length s ≤ 7) where
     where
       go : (c : Bool) → (rising s && below n s) ≡ c → (rising s && below n s) ≡ true
       go true e = e
-      go false e = absurd (values-are r [] 21 (sym t ∙ rank-refused e))
+      go false e = absurd (values-refusal (r ∷ []) 21 (sym t ∙ rank-refused e))
 
 pub rank-and-set : (n k r : ℕ) (s : List ℕ) → n ≤ 512 → k ≤ 7 → ((length s ≡ k) × RankTells n s r) ↔ SetTells n k r s
 rank-and-set n k r s a b = (there, back)

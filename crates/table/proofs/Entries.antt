@@ -1,10 +1,11 @@
 -- What the tests of a table give to the operations that come after them, and what the function check tells.
 --     Accepted                     a table, a number of shares and one of masks that pass the tests
 --     Sound, accepted-exactly      what the tests let through, in the scope's words
---     values-refusal               an answer is no refusal
 --     records-decide               where the numbers and the length are right, the records decide
---     accepted, tested-answer      where the tests pass, the operation's own answer stands
---     tested-refusal               where they do not, their refusal stands
+--     tested-passed, accepted      where an operation tells values, the tests passed, and its own answer tells them
+--     tested-answer                where the tests pass, the operation's own answer stands
+--     tested-carried, tested-refusal     where a refusal is told, an answer of another kind carries it; where it is the tests', it stands
+--     tested-kept                  a refusal leaves the buffer as it was
 --     shares-low, shares-high, masks-high       the limits of an accepted table
 --     wire-within, set-within, table-within     an accepted record has no bit beyond shares and masks
 --     set-decided                  the breaking test over all bits of a record is that over the gadget's shares and masks
@@ -23,9 +24,10 @@ use borrow.Author.Tests.{le-leb, lt-leb, ltb-false, le-ltb, lt-ltb, ltb-true, eq
 use lib.ListN.{length}
 use lib.Dec.{ltb, leb, eqb}
 use Rattle.basics.specs.Folds.{some, every, keep, oneIf, upTo}
-use Rattle.basics.specs.Told.{Told, values, refusal}
+use Rattle.basics.specs.Told.{Told, Lent, values, refusal, turnedDown}
 use Rattle.basics.proofs.Tests.{and-left, and-right, or-none, bool-ext}
 use Rattle.basics.proofs.Folds.{never, none-below, every-below}
+use Rattle.basics.proofs.Telling.{values-refusal, test-passed, test-carried, test-kept}
 use Rattle.wires.specs.declared.Notion.{Notion}
 use Rattle.wires.specs.Wires.{Terms, Wire, plus, total, breaks, beyond}
 use Rattle.wires.specs.Function.{functionTerms, outers, blank, computes}
@@ -44,25 +46,23 @@ pub record Accepted (table : List ℕ) (shares masks : ℕ) : Type 0 where
   pub goodLength : wrongLength table ≡ false
   pub goodRecords : some (λ w. wrongRecord shares masks (recordAt table w)) (upTo (wireCount table)) ≡ false
 
--- an answer is no refusal
-pub values-refusal : (l : List ℕ) (k : ℕ) → values l ≡ refusal k → ⊥
-values-refusal l k e = let z : _≡_ {A = ℕ} 0 1 = cc in omega (arith, z)
-
 -- ---- the tests, then the answer
 
 module _ (table : List ℕ) (shares masks : ℕ) where
+  abbrev bad : Bool
+  bad = some (λ w. wrongRecord shares masks (recordAt table w)) (upTo (wireCount table))
+
+  pub tested-passed : {A : Type 0} (refuse : ℕ → A) (tells : A → Told) → ((k : ℕ) → tells (refuse k) ≡ refusal k) → (answer : A) (l : List ℕ)
+      → tells (tested refuse table shares masks answer) ≡ values l → Accepted table shares masks × (tells answer ≡ values l)
+  tested-passed refuse tells refuses answer l e =
+      let third = cond bad (refuse 13) answer in
+      let a = test-passed refuse tells refuses (wrongShares shares masks) 11 (cond (wrongLength table) (refuse 12) third) l e in
+      let b = test-passed refuse tells refuses (wrongLength table) 12 third l (a .1) in
+      let c = test-passed refuse tells refuses bad 13 answer l (b .1) in
+      (record { goodShares = a .0; goodLength = b .0; goodRecords = c .0 }, c .1)
+
   pub accepted : values [] ≡ tableCheck table shares masks → Accepted table shares masks
-  accepted e =
-      go (wrongShares shares masks) (wrongLength table) (some (λ w. wrongRecord shares masks (recordAt table w)) (upTo (wireCount table))) refl refl
-      refl e
-    where
-      go : (a b c : Bool) → wrongShares shares masks ≡ a → wrongLength table ≡ b
-          → some (λ w. wrongRecord shares masks (recordAt table w)) (upTo (wireCount table)) ≡ c
-          → values [] ≡ cond a (refusal 11) (cond b (refusal 12) (cond c (refusal 13) (values []))) → Accepted table shares masks
-      go true b c p q r e = absurd (values-refusal [] 11 e)
-      go false true c p q r e = absurd (values-refusal [] 12 e)
-      go false false true p q r e = absurd (values-refusal [] 13 e)
-      go false false false p q r e = record { goodShares = p; goodLength = q; goodRecords = r }
+  accepted e = tested-passed refusal (λ t. t) (λ k. refl) (values []) [] (sym e) .0
 
   -- the records alone decide where the numbers and the length are right
   pub records-decide : (b : Bool) → 2 ≤ shares → shares ≤ 8 → masks ≤ 64 → length table % 24 ≡ 0 → length table ≤ 12288
@@ -83,20 +83,26 @@ module _ (table : List ℕ) (shares masks : ℕ) where
   pub tested-answer : {A : Type 0} (refuse : ℕ → A) (answer : A) → Accepted table shares masks → tested refuse table shares masks answer ≡ answer
   tested-answer refuse answer h = simp (h .goodShares, h .goodLength, h .goodRecords)
 
+  pub tested-carried : {A : Type 0} (refuse : ℕ → A) (answer : A) (told : Told) (k : ℕ) → refusal k ≡ tested refusal table shares masks told
+      → (refusal k ≡ told → answer ≡ refuse k) → tested refuse table shares masks answer ≡ refuse k
+  tested-carried refuse answer told k e h =
+      let third = cond bad (refuse 13) answer in
+      let told-third = cond bad (refusal 13) told in
+      test-carried refuse (wrongShares shares masks) 11 k (cond (wrongLength table) (refusal 12) told-third)
+      (cond (wrongLength table) (refuse 12) third) e
+      (λ f. test-carried refuse (wrongLength table) 12 k told-third third f (λ g. test-carried refuse bad 13 k told answer g h))
+
   pub tested-refusal : {A : Type 0} (refuse : ℕ → A) (answer : A) (k : ℕ) → refusal k ≡ tableCheck table shares masks
       → tested refuse table shares masks answer ≡ refuse k
-  tested-refusal refuse answer k e =
-      go (wrongShares shares masks) (wrongLength table) (some (λ w. wrongRecord shares masks (recordAt table w)) (upTo (wireCount table))) e
-    where
-      same : (i : ℕ) → refusal k ≡ refusal i → refuse i ≡ refuse k
-      same i e = let f : i ≡ k = cc in ap refuse f
+  tested-refusal refuse answer k e = tested-carried refuse answer (values []) k e (λ f. absurd (values-refusal [] k (sym f)))
 
-      go : (a b c : Bool) → refusal k ≡ cond a (refusal 11) (cond b (refusal 12) (cond c (refusal 13) (values [])))
-          → cond a (refuse 11) (cond b (refuse 12) (cond c (refuse 13) answer)) ≡ refuse k
-      go true b c e = same 11 e
-      go false true c e = same 12 e
-      go false false true e = same 13 e
-      go false false false e = absurd (values-refusal [] k (sym e))
+  pub tested-kept : (buffer : List ℕ) (answer : Lent) (k : ℕ) → tested (λ number. turnedDown number buffer) table shares masks answer .told
+      ≡ refusal k
+      → (answer .told ≡ refusal k → answer .held ≡ buffer) → tested (λ number. turnedDown number buffer) table shares masks answer .held ≡ buffer
+  tested-kept buffer answer k e h =
+      let third = cond bad (turnedDown 13 buffer) answer in
+      test-kept buffer (wrongShares shares masks) 11 k (cond (wrongLength table) (turnedDown 12 buffer) third) e
+      (λ f. test-kept buffer (wrongLength table) 12 k third f (λ g. test-kept buffer bad 13 k answer g h))
 
 -- ---- what the tests say
 
@@ -174,7 +180,8 @@ accepted-exactly table shares masks = (there, back)
           short = ltb-false 12288 (length table) (lengths .1);
           bits = wire-within table shares masks h;
           flag = λ w l. ltb-false 1 (field 18 1 (recordAt table w))
-              (or-none (beyond 8 64 shares masks (wireAt table w .terms)) (ltb 1 (field 18 1 (recordAt table w))) (never (wireCount table) w wrong (h .goodRecords) l) .1);
+              (or-none (beyond 8 64 shares masks (wireAt table w .terms)) (ltb 1 (field 18 1 (recordAt table w)))
+              (never (wireCount table) w wrong (h .goodRecords) l) .1);
         }
 
     none-wrong : Sound table shares masks → some wrong (upTo (wireCount table)) ≡ false

@@ -3,32 +3,36 @@
 --     verdict-ordered, range-asked         values are told exactly where no test turns the call down
 --     verdict-accepts, range-accepts       the same, with the tests in the scope's words
 --     verdict-kept, range-kept             a refusal leaves the buffer as it was
---     shown-nil, shown-set                 what a verdict's answer says of that list: it is empty, or it begins with the set
---     ranked-nil, ranked-set               and what a range check's says
+--     written-front, written-rest          a written set and what lies past it
+--     shown-nil, shown-parts, shown-set    what a verdict's answer says of that list: it is empty, or it begins with the set
+--     ranked-nil, ranked-parts, ranked-set     and what a range check's says
 use Prim.Native.Nat.{ℕ, _≤_, _<_}
 use native.Mathlib.Omega.{arith}
 use mathlib.Core.Path.{_≡_, refl, sym, _∙_, ap, ap₂}
 use mathlib.Core.Logic.{_↔_, _⊎_, inl, inr}
-use mathlib.Core.Bool.{Bool, true, false, cond, not, _&&_, _||_}
+use mathlib.Core.Bool.{true, false, cond, not, _&&_, _||_}
 use mathlib.Core.List.{List, [], _∷_}
-use borrow.Author.Tests.{le-leb, le-ltb, lt-ltb, leb-true, ltb-true, ltb-false, eqb-true, not-false}
+use borrow.Author.Tests.{leb-true, ltb-true, ltb-false, eqb-true, not-false}
 use lib.Dec.{ltb, leb, eqb}
 use lib.ListN.{length, take, drop}
-use lib.Seq.{take-append-seam}
-use Rattle.basics.specs.Folds.{some, keep, upTo}
-use Rattle.basics.specs.Told.{Lent, values, refusal, turnedDown}
+use lib.Seq.{take-append-seam, drop-append-seam}
+use Rattle.basics.specs.Folds.{keep}
+use Rattle.basics.specs.Told.{Told, Lent, values, refusal, turnedDown}
+use Rattle.basics.proofs.Telling.{values-refusal, test-passed, test-kept}
 use Rattle.basics.proofs.Tests.{and-left, and-right, or-cases}
-use Rattle.records.specs.Layout.{recordAt, wireCount}
-use Rattle.table.specs.Answers.{wrongShares, wrongLength, wrongRecord, tableCheck}
-use Rattle.table.proofs.Entries.{values-refusal, Accepted, accepted, Sound, accepted-exactly, tested-answer}
+use Rattle.records.specs.Layout.{wireCount}
+use Rattle.table.specs.Answers.{tableCheck}
+use Rattle.table.proofs.Entries.{Accepted, accepted, Sound, accepted-exactly, tested-answer}
 use Rattle.counts.specs.Counts.{binom}
 use Rattle.sets.specs.Order.{rankOf}
+use Rattle.verdict.specs.declared.VerdictAnswer.{VerdictAnswer}
+use Rattle.verdict.specs.declared.RangeAnswer.{RangeAnswer}
 use Rattle.verdict.specs.Search.{searched, stretch, isBreaking}
-use Rattle.verdict.specs.Answers.{wrongNotion, wrongOrder, notionOf, written, firstShown, firstRanked, verdictOf, rangeCheck}
+use Rattle.verdict.specs.Answers.{verdictTold, rangeTold, wrongNotion, wrongOrder, notionOf, written, firstShown, firstRanked, verdictOf, rangeCheck}
 use Rattle.verdict.specs.Jobs.{found, broken, Ordered, Asked}
-use Rattle.verdict.proofs.Admitting.{opened-told, opened-answer}
-use Rattle.verdict.proofs.Entries.{verdict-answer}
-use Rattle.verdict.proofs.Ranges.{range-answer}
+use Rattle.verdict.proofs.Admitting.{opened-passed, opened-kept}
+use Rattle.verdict.proofs.Entries.{verdict-answer, verdict-accepted}
+use Rattle.verdict.proofs.Ranges.{range-answer, range-accepted}
 
 passes : (table : List ℕ) (shares masks : ℕ) → Accepted table shares masks → values [] ≡ tableCheck table shares masks
 passes table shares masks h = sym (tested-answer table shares masks refusal (values []) h)
@@ -37,12 +41,7 @@ module _ (table : List ℕ) (shares masks notion order : ℕ) (buffer : List ℕ
   pub verdict-answered : Ordered table shares masks notion order buffer → verdictOf table shares masks notion order buffer
       ≡ firstShown (keep (isBreaking (notionOf notion) table shares masks) (searched (wireCount table) order)) buffer
   verdict-answered o =
-      let shows : verdict-answer table shares masks notion order buffer
-      ≡ firstShown (keep (isBreaking (notionOf notion) table shares masks) (searched (wireCount table) order)) buffer =
-      simp (le-leb 1 order (o .low), lt-ltb order shares (o .high), le-ltb (length buffer) order (o .room)) in
-      opened-answer table shares masks notion (λ number. turnedDown number buffer) (verdict-answer table shares masks notion order buffer)
-      (notionOf notion) (record { sound = accepted table shares masks (o .sound); known = o .known; named = refl })
-      ∙ shows
+      verdict-accepted table shares masks notion order buffer (accepted table shares masks (o .sound)) (o .known) (o .low) (o .high) (o .room)
 
   pub verdict-ordered : ((l : List ℕ) × (verdictOf table shares masks notion order buffer .told
       ≡ values l)) ↔ Ordered table shares masks notion order buffer
@@ -50,22 +49,18 @@ module _ (table : List ℕ) (shares masks notion order : ℕ) (buffer : List ℕ
     where
       there : (l : List ℕ) → verdictOf table shares masks notion order buffer .told ≡ values l → Ordered table shares masks notion order buffer
       there l e =
-          let t = opened-told table shares masks notion buffer (verdict-answer table shares masks notion order buffer) l e in
-          go (leb 1 order && ltb order shares) (ltb (length buffer) order) refl refl (t .0) (t .1) (t .2)
-        where
-          go : (a b : Bool) → (leb 1 order && ltb order shares) ≡ a → ltb (length buffer) order ≡ b → Accepted table shares masks
-              → wrongNotion notion ≡ false
-              → cond (not a) (turnedDown 15 buffer) (cond b (turnedDown 16 buffer)
-              (firstShown (keep (isBreaking (notionOf notion) table shares masks) (searched (wireCount table) order)) buffer)) .told ≡ values l
-              → Ordered table shares masks notion order buffer
-          go false b p q sound known e = absurd (values-refusal l 15 (sym e))
-          go true true p q sound known e = absurd (values-refusal l 16 (sym e))
-          go true false p q sound known e = record {
-            sound = passes table shares masks sound;
-            known = known;
-            low = leb-true 1 order (and-left (leb 1 order) (ltb order shares) p);
-            high = ltb-true order shares (and-right (leb 1 order) (ltb order shares) p);
-            room = ltb-false (length buffer) order q;
+          let refuse : ℕ → Lent = λ number. turnedDown number buffer in
+          let tells : Lent → Told = λ a. a .told in
+          let shown = firstShown (keep (isBreaking (notionOf notion) table shares masks) (searched (wireCount table) order)) buffer in
+          let t = opened-passed table shares masks notion refuse tells (λ k. refl) (verdict-answer table shares masks notion order buffer) l e in
+          let a = test-passed refuse tells (λ k. refl) (wrongOrder shares order) 15 (cond (ltb (length buffer) order) (refuse 16) shown) l (t .2) in
+          let b = test-passed refuse tells (λ k. refl) (ltb (length buffer) order) 16 shown l (a .1) in
+          let within = not-false (leb 1 order && ltb order shares) (a .0) in record {
+            sound = passes table shares masks (t .0);
+            known = t .1;
+            low = leb-true 1 order (and-left (leb 1 order) (ltb order shares) within);
+            high = ltb-true order shares (and-right (leb 1 order) (ltb order shares) within);
+            room = ltb-false (length buffer) order (b .0);
           }
 
       told : (l : List (List ℕ)) → (v : List ℕ) × (firstShown l buffer .told ≡ values v)
@@ -82,12 +77,7 @@ module _ (table : List ℕ) (shares masks notion size from to : ℕ) (buffer : L
       → rangeCheck table shares masks notion size from to buffer
       ≡ firstRanked (wireCount table) (keep (isBreaking (notionOf notion) table shares masks) (stretch (wireCount table) size from to)) buffer
   range-answered o rises ends =
-      let shows : range-answer table shares masks notion size from to buffer
-      ≡ firstRanked (wireCount table) (keep (isBreaking (notionOf notion) table shares masks) (stretch (wireCount table) size from to)) buffer =
-      simp (le-ltb 7 size (o .small), le-ltb (length buffer) size (o .room), le-leb from to rises, le-leb to (binom (wireCount table) size) ends) in
-      opened-answer table shares masks notion (λ number. turnedDown number buffer) (range-answer table shares masks notion size from to buffer)
-      (notionOf notion) (record { sound = accepted table shares masks (o .sound); known = o .known; named = refl })
-      ∙ shows
+      range-accepted table shares masks notion size from to buffer (accepted table shares masks (o .sound)) (o .known) (o .small) (o .room) rises ends
 
   pub range-asked : ((l : List ℕ) × (rangeCheck table shares masks notion size from to buffer .told ≡ values l))
       ↔ (Asked table shares masks notion size buffer × (from ≤ to) × (to ≤ binom (wireCount table) size))
@@ -99,23 +89,25 @@ module _ (table : List ℕ) (shares masks notion size from to : ℕ) (buffer : L
       there : (l : List ℕ) → rangeCheck table shares masks notion size from to buffer .told ≡ values l
           → Asked table shares masks notion size buffer × (from ≤ to) × (to ≤ binom (wireCount table) size)
       there l e =
-          let t = opened-told table shares masks notion buffer (range-answer table shares masks notion size from to buffer) l e in
-          go (ltb 7 size) (ltb (length buffer) size) (leb from to && leb to all) refl refl refl (t .0) (t .1) (t .2)
-        where
-          go : (a b c : Bool) → ltb 7 size ≡ a → ltb (length buffer) size ≡ b → (leb from to && leb to all) ≡ c → Accepted table shares masks
-              → wrongNotion notion ≡ false
-              → cond a (turnedDown 17 buffer) (cond b (turnedDown 16 buffer) (cond (not c) (turnedDown 18 buffer)
-              (firstRanked (wireCount table) (keep (isBreaking (notionOf notion) table shares masks)
-              (stretch (wireCount table) size from to)) buffer))) .told
-              ≡ values l
-              → Asked table shares masks notion size buffer × (from ≤ to) × (to ≤ binom (wireCount table) size)
-          go true b c p q r sound known e = absurd (values-refusal l 17 (sym e))
-          go false true c p q r sound known e = absurd (values-refusal l 16 (sym e))
-          go false false false p q r sound known e = absurd (values-refusal l 18 (sym e))
-          go false false true p q r sound known e = (
-            record { sound = passes table shares masks sound; known = known; small = ltb-false 7 size p; room = ltb-false (length buffer) size q },
-            leb-true from to (and-left (leb from to) (leb to all) r),
-            leb-true to all (and-right (leb from to) (leb to all) r),
+          let refuse : ℕ → Lent = λ number. turnedDown number buffer in
+          let tells : Lent → Told = λ a. a .told in
+          let shown =
+          firstRanked (wireCount table) (keep (isBreaking (notionOf notion) table shares masks) (stretch (wireCount table) size from to)) buffer in
+          let third = cond (not (leb from to && leb to all)) (refuse 18) shown in
+          let t = opened-passed table shares masks notion refuse tells (λ k. refl) (range-answer table shares masks notion size from to buffer) l e in
+          let a = test-passed refuse tells (λ k. refl) (ltb 7 size) 17 (cond (ltb (length buffer) size) (refuse 16) third) l (t .2) in
+          let b = test-passed refuse tells (λ k. refl) (ltb (length buffer) size) 16 third l (a .1) in
+          let c = test-passed refuse tells (λ k. refl) (not (leb from to && leb to all)) 18 shown l (b .1) in
+          let within = not-false (leb from to && leb to all) (c .0) in (
+            record {
+              sound = passes table shares masks (t .0);
+              known = t .1;
+              small = ltb-false 7 size (a .0);
+              room = ltb-false (length buffer) size
+                  (b .0);
+            },
+            leb-true from to (and-left (leb from to) (leb to all) within),
+            leb-true to all (and-right (leb from to) (leb to all) within),
           )
 
       told : (l : List (List ℕ)) → (v : List ℕ) × (firstRanked (wireCount table) l buffer .told ≡ values v)
@@ -174,85 +166,82 @@ range-accepts table shares masks notion size from to buffer = (
 -- ---- a refusal
 
 module _ (table : List ℕ) (shares masks notion : ℕ) (buffer : List ℕ) (number : ℕ) where
-  abbrev bad : Bool
-  bad = some (λ wire. wrongRecord shares masks (recordAt table wire)) (upTo (wireCount table))
-
   pub verdict-kept : (order : ℕ) → verdictOf table shares masks notion order buffer .told ≡ refusal number
       → verdictOf table shares masks notion order buffer .held ≡ buffer
   verdict-kept order e =
-      go (wrongShares shares masks) (wrongLength table) bad (wrongNotion notion) (wrongOrder shares order) (ltb (length buffer) order)
-      (keep (isBreaking (notionOf notion) table shares masks) (searched (wireCount table) order)) e
+      let l = keep (isBreaking (notionOf notion) table shares masks) (searched (wireCount table) order) in
+      opened-kept table shares masks notion buffer (verdict-answer table shares masks notion order buffer) number e
+      (λ f. test-kept buffer (wrongOrder shares order) 15 number (cond (ltb (length buffer) order) (turnedDown 16 buffer) (firstShown l buffer)) f
+      (λ g. test-kept buffer (ltb (length buffer) order) 16 number (firstShown l buffer) g (last l)))
     where
-      tests : Bool → Bool → Bool → Bool → Bool → Bool → List (List ℕ) → Lent
-      tests a b c d f g l =
-          cond a (turnedDown 11 buffer) (cond b (turnedDown 12 buffer) (cond c (turnedDown 13 buffer) (cond d (turnedDown 14 buffer)
-          (cond f (turnedDown 15 buffer) (cond g (turnedDown 16 buffer) (firstShown l buffer))))))
-
-      go : (a b c d f g : Bool) (l : List (List ℕ)) → tests a b c d f g l .told ≡ refusal number → tests a b c d f g l .held ≡ buffer
-      go true b c d f g l e = refl
-      go false true c d f g l e = refl
-      go false false true d f g l e = refl
-      go false false false true f g l e = refl
-      go false false false false true g l e = refl
-      go false false false false false true l e = refl
-      go false false false false false false [] e = refl
-      go false false false false false false (s ∷ later) e = absurd (values-refusal (length s ∷ []) number e)
+      last : (l : List (List ℕ)) → firstShown l buffer .told ≡ refusal number → firstShown l buffer .held ≡ buffer
+      last [] e = refl
+      last (s ∷ later) e = absurd (values-refusal (length s ∷ []) number e)
 
   pub range-kept : (size from to : ℕ) → rangeCheck table shares masks notion size from to buffer .told ≡ refusal number
       → rangeCheck table shares masks notion size from to buffer .held ≡ buffer
   range-kept size from to e =
-      go (wrongShares shares masks) (wrongLength table) bad (wrongNotion notion) (ltb 7 size) (ltb (length buffer) size)
-      (not (leb from to && leb to (binom (wireCount table) size)))
-      (keep (isBreaking (notionOf notion) table shares masks) (stretch (wireCount table) size from to)) e
+      let n = wireCount table in
+      let l = keep (isBreaking (notionOf notion) table shares masks) (stretch n size from to) in
+      let third = cond (not (leb from to && leb to (binom n size))) (turnedDown 18 buffer) (firstRanked n l buffer) in
+      opened-kept table shares masks notion buffer (range-answer table shares masks notion size from to buffer) number e
+      (λ f. test-kept buffer (ltb 7 size) 17 number (cond (ltb (length buffer) size) (turnedDown 16 buffer) third) f
+      (λ g. test-kept buffer (ltb (length buffer) size) 16 number third g
+      (λ h. test-kept buffer (not (leb from to && leb to (binom n size))) 18 number (firstRanked n l buffer) h (last l))))
     where
-      tests : Bool → Bool → Bool → Bool → Bool → Bool → Bool → List (List ℕ) → Lent
-      tests a b c d f g h l =
-          cond a (turnedDown 11 buffer) (cond b (turnedDown 12 buffer) (cond c (turnedDown 13 buffer) (cond d (turnedDown 14 buffer)
-          (cond f (turnedDown 17 buffer) (cond g (turnedDown 16 buffer) (cond h (turnedDown 18 buffer) (firstRanked (wireCount table) l buffer)))))))
-
-      go : (a b c d f g h : Bool) (l : List (List ℕ)) → tests a b c d f g h l .told ≡ refusal number → tests a b c d f g h l .held ≡ buffer
-      go true b c d f g h l e = refl
-      go false true c d f g h l e = refl
-      go false false true d f g h l e = refl
-      go false false false true f g h l e = refl
-      go false false false false true g h l e = refl
-      go false false false false false true h l e = refl
-      go false false false false false false true l e = refl
-      go false false false false false false false [] e = refl
-      go false false false false false false false (s ∷ later) e =
-          absurd (values-refusal (length s ∷ rankOf (wireCount table) s ∷ []) number e)
+      last : (l : List (List ℕ)) → firstRanked (wireCount table) l buffer .told ≡ refusal number → firstRanked (wireCount table) l buffer .held
+          ≡ buffer
+      last [] e = refl
+      last (s ∷ later) e = absurd (values-refusal (length s ∷ rankOf (wireCount table) s ∷ []) number e)
 
 -- ---- back from an answer to the list
 
 module _ (buffer : List ℕ) where
-  -- equal lists, of one length, begin buffers that are equal
-  front : (p q : List ℕ) → length p ≡ length q → written p buffer ≡ written q buffer → p ≡ q
-  front p q long e =
-      sym (take-append-seam p (drop (length p) buffer)) ∙ ap₂ {C = List ℕ} take long e ∙ take-append-seam q (drop (length q) buffer)
+  -- a written set and what lies past it, by the set's size
+  pub written-front : (size : ℕ) (held s : List ℕ) → size ≡ length s → held ≡ written s buffer → take size held ≡ s
+  written-front size held s long e = ap₂ {C = List ℕ} take long e ∙ take-append-seam s (drop (length s) buffer)
+
+  pub written-rest : (size : ℕ) (held s : List ℕ) → size ≡ length s → held ≡ written s buffer → drop size held ≡ drop size buffer
+  written-rest size held s long e =
+      ap₂ {C = List ℕ} drop long e ∙ drop-append-seam s (drop (length s) buffer) ∙ ap (λ (i : ℕ). drop i buffer) (sym long)
+
+  -- sets of one length that begin equal buffers are equal
+  same-set : (s t : List ℕ) → length s ≡ length t → written s buffer ≡ written t buffer → s ≡ t
+  same-set s t long e = sym (written-front (length s) (written s buffer) s refl refl) ∙ written-front (length s) (written s buffer) t long e
 
   pub shown-nil : (l : List (List ℕ)) → firstShown l buffer .told ≡ values [] → l ≡ []
   shown-nil [] e = refl
-  shown-nil (s ∷ later) e =
-      let z : _≡_ {A = ℕ} 0 1 = cc in let w : ⊥ = omega (arith, z) in absurd w
+  shown-nil (s ∷ later) e = let z : _≡_ {A = ℕ} 0 1 = cc in absurd (omega (arith, z))
+
+  pub shown-parts : (size : ℕ) (held : List ℕ) (l : List (List ℕ)) → verdictTold (VerdictAnswer.Broken size) held ≡ firstShown l buffer
+      → (s : List ℕ) × (later : List (List ℕ)) × (l ≡ s ∷ later) × (size ≡ length s) × (held ≡ written s buffer)
+  shown-parts size held [] e = let f = ap (λ (a : Lent). a .told) e in let z : _≡_ {A = ℕ} 0 1 = cc in absurd (omega (arith, z))
+  shown-parts size held (s ∷ later) e =
+      let f = ap (λ (a : Lent). a .told) e in
+      let long : size ≡ length s = cc in
+      (s, later, refl, long, ap (λ (a : Lent). a .held) e)
 
   pub shown-set : (l : List (List ℕ)) (s : List ℕ) → firstShown l buffer ≡ broken s buffer → (later : List (List ℕ)) × (l ≡ s ∷ later)
-  shown-set [] s e = let f = ap (λ (a : Lent). a .told) e in let z : _≡_ {A = ℕ} 0 1 = cc in let w : ⊥ = omega (arith, z) in absurd w
-  shown-set (t ∷ later) s e =
-      let f = ap (λ (a : Lent). a .told) e in
-      let long : length t ≡ length s = cc in
-      (later, ap {B = List (List ℕ)} (λ u. u ∷ later) (front t s long (ap (λ (a : Lent). a .held) e)))
+  shown-set l s e =
+      let r = shown-parts (length s) (written s buffer) l (sym e) in
+      (r .1, r .2 ∙ ap {B = List (List ℕ)} (λ u. u ∷ r .1) (sym (same-set s (r .0) (r .3) (r .4))))
 
   pub ranked-nil : (n : ℕ) (l : List (List ℕ)) → firstRanked n l buffer .told ≡ values [] → l ≡ []
   ranked-nil n [] e = refl
-  ranked-nil n (s ∷ later) e =
-      let z : _≡_ {A = ℕ} 0 1 = cc in let w : ⊥ = omega (arith, z) in absurd w
+  ranked-nil n (s ∷ later) e = let z : _≡_ {A = ℕ} 0 1 = cc in absurd (omega (arith, z))
+
+  pub ranked-parts : (n size rank : ℕ) (held : List ℕ) (l : List (List ℕ)) → rangeTold (RangeAnswer.Found size rank) held ≡ firstRanked n l buffer
+      → (s : List ℕ) × (later : List (List ℕ)) × (l ≡ s ∷ later) × (size ≡ length s) × (rank ≡ rankOf n s) × (held ≡ written s buffer)
+  ranked-parts n size rank held [] e = let f = ap (λ (a : Lent). a .told) e in let z : _≡_ {A = ℕ} 0 1 = cc in absurd (omega (arith, z))
+  ranked-parts n size rank held (s ∷ later) e =
+      let f = ap (λ (a : Lent). a .told) e in
+      let long : size ≡ length s = cc in
+      let place : rank ≡ rankOf n s = cc in
+      (s, later, refl, long, place, ap (λ (a : Lent). a .held) e)
 
   pub ranked-set : (n : ℕ) (l : List (List ℕ)) (s : List ℕ) (rank : ℕ) → firstRanked n l buffer ≡ found s rank buffer
       → (later : List (List ℕ)) × (l ≡ s ∷ later) × (rank ≡ rankOf n s)
-  ranked-set n [] s rank e = let f = ap (λ (a : Lent). a .told) e in let z : _≡_ {A = ℕ} 0 1 = cc in let w : ⊥ = omega (arith, z) in absurd w
-  ranked-set n (t ∷ later) s rank e =
-      let f = ap (λ (a : Lent). a .told) e in
-      let long : length t ≡ length s = cc in
-      let place : rankOf n t ≡ rank = cc in
-      let same : t ≡ s = front t s long (ap (λ (a : Lent). a .held) e) in
-      (later, ap {B = List (List ℕ)} (λ u. u ∷ later) same, sym place ∙ ap (rankOf n) same)
+  ranked-set n l s rank e =
+      let r = ranked-parts n (length s) rank (written s buffer) l (sym e) in
+      let same : r .0 ≡ s = sym (same-set s (r .0) (r .3) (r .5)) in
+      (r .1, r .2 ∙ ap {B = List (List ℕ)} (λ u. u ∷ r .1) same, r .4 ∙ ap (rankOf n) same)

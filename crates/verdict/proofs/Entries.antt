@@ -2,12 +2,13 @@
 --     searched-decided, stretch-decided     the code's test over all bits of a record finds the sets that the gadget's shares and masks give
 --     opened-for, short                     what the first tests say: the notion, and a table of at most 512 wires
 --     Promise, verdict-answer               the whole of a verdict's promise; its answer after the first tests
+--     verdict-accepted                      where all tests pass the first breaking set decides
 --     before, order-low, order-high, no-room, found-none, found-set     the verdict's answers
 --     Passed, bytes, seven, size-within     all tests of a verdict passed: the table's bytes, the order and the size that was found are within limits
 use Prim.Native.Nat.{ℕ, suc, _-_, _%_, _≤_, _<_}
 use native.Mathlib.Omega.{arith}
 use mathlib.Core.Path.{_≡_, refl, sym, _∙_, ap, ap₂}
-use mathlib.Core.Bool.{Bool, true, cond, not, and-false}
+use mathlib.Core.Bool.{Bool, true, false, cond, not, and-false}
 use mathlib.Core.List.{List, [], _∷_, map}
 use borrow.Author.Tests.{le-leb, lt-leb, le-ltb, lt-ltb, ltb-false}
 use lib.Dec.{ltb, leb, eqb}
@@ -19,7 +20,7 @@ use Rattle.basics.proofs.Tests.{or-none}
 use Rattle.wires.specs.declared.Notion.{Notion}
 use Rattle.wires.specs.Wires.{breaks}
 use Rattle.records.specs.Layout.{wireAt, wireCount}
-use Rattle.table.proofs.Entries.{shares-high, set-decided}
+use Rattle.table.proofs.Entries.{Accepted, shares-high, set-decided}
 use Rattle.sets.specs.Order.{revolving, setAt, isSet}
 use Rattle.sets.proofs.Revolving.{revolving-length, set-at-is-set}
 use Rattle.verdict.specs.declared.Refusal.{Refusal}
@@ -27,7 +28,7 @@ use Rattle.verdict.specs.declared.Refusal.the-variants.{OrderOutOfRange,
 use Rattle.verdict.specs.declared.Opened.{Opened}
 use Rattle.verdict.specs.declared.VerdictAnswer.{VerdictAnswer}
 use Rattle.verdict.specs.Search.{searched, stretch, isBreaking, first, FirstSet}
-use Rattle.verdict.specs.Answers.{refusalNumber, verdictTold, wrongOrder, notionOf, openedTold, opens, written, firstShown, verdictOf}
+use Rattle.verdict.specs.Answers.{refusalNumber, verdictTold, wrongNotion, wrongOrder, notionOf, openedTold, opens, written, firstShown, verdictOf}
 use Rattle.verdict.specs.Guarantee.{Guarantee}
 use Rattle.verdict.proofs.Keeping.{each-place, each-take, each-drop, keep-same}
 use Rattle.verdict.proofs.Turns.{set-inside}
@@ -85,6 +86,15 @@ module _ (table : List ℕ) (shares masks notion order : ℕ) (buffer : List ℕ
       (cond (ltb (length buffer) order) (turnedDown 16 buffer)
       (firstShown (keep (isBreaking (notionOf notion) table shares masks) (searched (wireCount table) order)) buffer))
 
+  -- where all tests pass the first breaking set decides
+  pub verdict-accepted : Accepted table shares masks → wrongNotion notion ≡ false → 1 ≤ order → order < shares → order ≤ length buffer
+      → verdictOf table shares masks notion order buffer
+      ≡ firstShown (keep (isBreaking (notionOf notion) table shares masks) (searched (wireCount table) order)) buffer
+  verdict-accepted sound known low high room =
+      let shows : verdict-answer ≡ firstShown (keep (isBreaking (notionOf notion) table shares masks) (searched (wireCount table) order)) buffer =
+      simp (le-leb 1 order low, lt-ltb order shares high, le-ltb (length buffer) order room) in
+      opened-answer table shares masks notion (λ number. turnedDown number buffer) verdict-answer sound known ∙ shows
+
   pub before : (why : Refusal) → openedTold (Opened.Refused why) ≡ opens table shares masks notion
       → Promise (VerdictAnswer.Refused why) buffer table shares masks notion order buffer
   before why e = record {
@@ -94,8 +104,9 @@ module _ (table : List ℕ) (shares masks notion order : ℕ) (buffer : List ℕ
 
   module _ (kind : Notion) (told : openedTold (Opened.For kind) ≡ opens table shares masks notion) where
     own-answer : verdictOf table shares masks notion order buffer ≡ verdict-answer
-    own-answer = opened-answer table shares masks notion (λ number. turnedDown number buffer) verdict-answer kind
-        (opened-for table shares masks notion kind told)
+    own-answer =
+        let o = opened-for table shares masks notion kind told in
+        opened-answer table shares masks notion (λ number. turnedDown number buffer) verdict-answer (o .sound) (o .known)
 
     turned : (why : Refusal) → turnedDown (refusalNumber why) buffer ≡ verdict-answer
         → Promise (VerdictAnswer.Refused why) buffer table shares masks notion order buffer
@@ -133,8 +144,10 @@ module _ (table : List ℕ) (shares masks notion order : ℕ) (buffer : List ℕ
     same : keep (isBreaking kind table 8 64) (searched (wireCount table) order) ≡ sets
     same = searched-decided table shares masks notion kind (opened-for table shares masks notion kind (p .told)) order
 
-    shows : firstShown sets buffer ≡ verdict-answer table shares masks notion order buffer
-    shows = simp (le-leb 1 order (p .low), lt-ltb order shares (p .high), le-ltb (length buffer) order (p .room))
+    shows : firstShown sets buffer ≡ verdictOf table shares masks notion order buffer
+    shows =
+        let o = opened-for table shares masks notion kind (p .told) in
+        sym (verdict-accepted table shares masks notion order buffer (o .sound) (o .known) (p .low) (p .high) (p .room))
 
     long : size ≡ length (first sets)
     long = search .size-is ∙ ap (λ (l : List (List ℕ)). length (first l)) same
@@ -154,8 +167,7 @@ module _ (table : List ℕ) (shares masks notion order : ℕ) (buffer : List ℕ
       where
         go : (l : List (List ℕ)) → sets ≡ l → size ≡ length (first l) → Promise VerdictAnswer.Holds buffer table shares masks notion order buffer
         go [] e k = record {
-          equation = ap (λ (l : List (List ℕ)). firstShown l buffer) (sym e) ∙ shows
-              ∙ sym (own-answer table shares masks notion order buffer kind (p .told));
+          equation = ap (λ (l : List (List ℕ)). firstShown l buffer) (sym e) ∙ shows;
           guarantee = holds table shares masks notion order buffer e;
         }
         go (s ∷ later) e k = let z : ⊥ = omega (arith, shown-none table shares masks notion order s later e .0) in absurd z
@@ -172,8 +184,7 @@ module _ (table : List ℕ) (shares masks notion order : ℕ) (buffer : List ℕ
             let copied : held ≡ written s buffer =
             wrote ∙ ap (λ (l : List ℕ). written l buffer) (ap (λ (i : ℕ). take i probes) all ∙ q) in record {
               equation = ap₂ (λ (k : ℕ) (l : List ℕ). record { told = values (k ∷ []); held = l }) k copied
-                  ∙ ap (λ (l : List (List ℕ)). firstShown l buffer) (sym e) ∙ shows
-                  ∙ sym (own-answer table shares masks notion order buffer kind (p .told));
+                  ∙ ap (λ (l : List (List ℕ)). firstShown l buffer) (sym e) ∙ shows;
               guarantee = broken table shares masks notion order size held s later e k
                   (ap₂ {C = List ℕ} take k copied ∙ take-at s (drop (length s) buffer) (length s) refl);
             }

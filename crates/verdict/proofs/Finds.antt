@@ -3,15 +3,14 @@
 --     range-finds        clean: no set at a rank of the range breaks; found: the set written is the first that does, at the rank given
 use Prim.Native.Nat.{ℕ, _-_, _≤_, _<_}
 use native.Mathlib.Omega.{arith}
-use mathlib.Core.Path.{_≡_, refl, sym, _∙_, ap, ap₂, subst}
+use mathlib.Core.Path.{_≡_, sym, _∙_, ap, subst}
 use mathlib.Core.List.{List, [], _∷_}
 use lib.ListN.{length, take, drop}
-use lib.Seq.{take-append-seam, drop-append-seam}
 use Rattle.basics.specs.Folds.{keep}
 use Rattle.basics.specs.Told.{Lent, values}
 use Rattle.records.specs.Layout.{wireCount}
 use Rattle.counts.specs.Counts.{binom}
-use Rattle.sets.specs.Order.{setAt, rankOf}
+use Rattle.sets.specs.Order.{setAt}
 use Rattle.sets.proofs.Rising.{isSet-parts}
 use Rattle.sets.proofs.Revolving.{set-at-is-set}
 use Rattle.verdict.specs.declared.VerdictAnswer.{VerdictAnswer}
@@ -21,7 +20,7 @@ use Rattle.verdict.specs.Answers.{refusalNumber, verdictTold, rangeTold,
 use Rattle.verdict.specs.First.{FirstBreaking, FirstInRange, VerdictFinds, RangeFinds}
 use Rattle.verdict.specs.Jobs.{found, broken, Ordered, Asked}
 use Rattle.verdict.proofs.Watching.{all-whole}
-use Rattle.verdict.proofs.Accepting.{verdict-kept, range-kept, verdict-answered, range-answered, verdict-ordered, range-asked, shown-nil, ranked-nil}
+use Rattle.verdict.proofs.Accepting.{written-front, written-rest, shown-parts, ranked-parts, verdict-kept, range-kept, verdict-answered, range-answered, verdict-ordered, range-asked, shown-nil, ranked-nil}
 use Rattle.verdict.proofs.First.{first-is, clean-exactly, finds-exactly}
 
 module _ (table : List ℕ) (shares masks notion order : ℕ) (buffer held : List ℕ) where
@@ -37,16 +36,13 @@ module _ (table : List ℕ) (shares masks notion order : ℕ) (buffer held : Lis
   answered : (l : List ℕ) → values l ≡ told-verdict .told → told-verdict ≡ firstShown breaking buffer
   answered l e = verdict-answered table shares masks notion order buffer (ordered l e)
 
-  shown : (size : ℕ) (l : List (List ℕ)) → breaking ≡ l → verdictTold (VerdictAnswer.Broken size) held ≡ firstShown l buffer
+  shown : (size : ℕ) → verdictTold (VerdictAnswer.Broken size) held ≡ firstShown breaking buffer
       → (drop size held ≡ drop size buffer) × FirstBreaking table shares masks notion order (take size held)
-  shown size [] p e = let f = ap (λ (a : Lent). a .told) e in let z : _≡_ {A = ℕ} 0 1 = cc in absurd (omega (arith, z))
-  shown size (s ∷ later) p e =
-      let f = ap (λ (a : Lent). a .told) e in
-      let long : size ≡ length s = cc in
-      let wrote = ap (λ (a : Lent). a .held) e in
-      let front : take size held ≡ s = ap₂ {C = List ℕ} take long wrote ∙ take-append-seam s (drop (length s) buffer) in (
-        ap₂ {C = List ℕ} drop long wrote ∙ drop-append-seam s (drop (length s) buffer) ∙ ap (λ (i : ℕ). drop i buffer) (sym long),
-        subst (FirstBreaking table shares masks notion order) (sym front) (first-is table shares masks notion order s later p),
+  shown size e =
+      let r = shown-parts buffer size held breaking e in (
+        written-rest buffer size held (r .0) (r .3) (r .4),
+        subst (FirstBreaking table shares masks notion order) (sym (written-front buffer size held (r .0) (r .3) (r .4)))
+            (first-is table shares masks notion order (r .0) (r .1) (r .2)),
       )
 
   pub verdict-finds : (answer : VerdictAnswer) → verdictTold answer held ≡ told-verdict
@@ -67,7 +63,7 @@ module _ (table : List ℕ) (shares masks notion order : ℕ) (buffer held : Lis
         holds = λ same. let z : _≡_ {A = ℕ} 0 1 = cc in absurd (omega (arith, z));
         broken = λ other same. let k : size ≡ other = cc in
             subst (λ (i : ℕ). (drop i held ≡ drop i buffer) × FirstBreaking table shares masks notion order (take i held)) k
-            (shown size breaking refl (e ∙ answered (size ∷ []) f));
+            (shown size (e ∙ answered (size ∷ []) f));
         refused = λ why same. let z : _≡_ {A = ℕ} 0 1 = cc in absurd (omega (arith, z));
       }
   verdict-finds (VerdictAnswer.Refused why) e = record {
@@ -93,25 +89,20 @@ module _ (table : List ℕ) (shares masks notion size from to : ℕ) (buffer hel
   listed : Accepts → told-range ≡ firstRanked (wireCount table) ranges buffer
   listed o = range-answered table shares masks notion size from to buffer (o .0) (o .1) (o .2)
 
-  placed : Accepts → (k rank : ℕ) (l : List (List ℕ)) → rangeTold (RangeAnswer.Found k rank) held ≡ firstRanked (wireCount table) l buffer
-      → firstRanked (wireCount table) l buffer ≡ told-range
+  placed : Accepts → (k rank : ℕ) → rangeTold (RangeAnswer.Found k rank) held ≡ told-range
       → (k ≡ size) × (drop size held ≡ drop size buffer) × FirstInRange table shares masks notion size from to (take size held) rank
-  placed o k rank [] e g = let f = ap (λ (a : Lent). a .told) e in let z : _≡_ {A = ℕ} 0 1 = cc in absurd (omega (arith, z))
-  placed o k rank (s ∷ later) e g =
-      let f = ap (λ (a : Lent). a .told) e in
-      let long : k ≡ length s = cc in
-      let place : rankOf (wireCount table) s ≡ rank = cc in
-      let wrote = ap (λ (a : Lent). a .held) e in
-      let first = finds-exactly table shares masks notion size from to buffer (o .0) (o .1) (o .2) s rank .0
-      (sym g ∙ ap (λ (r : ℕ). found s r buffer) place) in
-      let counted : rank < binom (wireCount table) size = omega (arith, first .high, o .2) in
-      let whole : size ≡ length s =
-      sym (isSet-parts (wireCount table) size (setAt (wireCount table) size rank) (set-at-is-set (wireCount table) size rank counted) .0)
-      ∙ ap length (first .stands) in
-      let front : take size held ≡ s = ap₂ {C = List ℕ} take whole wrote ∙ take-append-seam s (drop (length s) buffer) in (
-        long ∙ sym whole,
-        ap₂ {C = List ℕ} drop whole wrote ∙ drop-append-seam s (drop (length s) buffer) ∙ ap (λ (i : ℕ). drop i buffer) (sym whole),
-        subst (λ (t : List ℕ). FirstInRange table shares masks notion size from to t rank) (sym front) first,
+  placed o k rank e =
+      let n = wireCount table in
+      let r = ranked-parts buffer n k rank held ranges (e ∙ listed o) in
+      let shows = listed o ∙ ap (λ (l : List (List ℕ)). firstRanked n l buffer) (r .2) ∙ ap (λ (i : ℕ). found (r .0) i buffer) (sym (r .4)) in
+      let first = finds-exactly table shares masks notion size from to buffer (o .0) (o .1) (o .2) (r .0) rank .0 shows in
+      let counted : rank < binom n size = omega (arith, first .high, o .2) in
+      let whole : size ≡ length (r .0) =
+      sym (isSet-parts n size (setAt n size rank) (set-at-is-set n size rank counted) .0) ∙ ap length (first .stands) in (
+        r .3 ∙ sym whole,
+        written-rest buffer size held (r .0) whole (r .5),
+        subst (λ (t : List ℕ). FirstInRange table shares masks notion size from to t rank)
+            (sym (written-front buffer size held (r .0) whole (r .5))) first,
       )
 
   pub range-finds : (answer : RangeAnswer) → rangeTold answer held ≡ told-range
@@ -136,7 +127,7 @@ module _ (table : List ℕ) (shares masks notion size from to : ℕ) (buffer hel
             × FirstInRange table shares masks notion size from to (take size held) place) p
             (subst (λ (r : ℕ). (k ≡ size) × (drop size held ≡ drop size buffer)
             × FirstInRange table shares masks notion size from to (take size held) r) q
-            (placed o k rank ranges (e ∙ listed o) (sym (listed o))));
+            (placed o k rank e));
         refused = λ why same. let z : _≡_ {A = ℕ} 0 1 = cc in absurd (omega (arith, z));
       }
   range-finds (RangeAnswer.Refused why) e = record {

@@ -17,9 +17,11 @@ use borrow.Author.Tests.{ltb-false, leb-false}
 use lib.Dec.{ltb, leb, eqb}
 use Rattle.basics.specs.Folds.{keep}
 use Rattle.basics.specs.Told.{Lent, values, refusal}
+use Rattle.basics.proofs.Tests.{or-none}
 use Rattle.basics.proofs.Folds.{keep-append}
+use Rattle.basics.proofs.Telling.{test-passed}
 use Rattle.records.specs.Layout.{wireCount}
-use Rattle.table.proofs.Entries.{values-refusal, accepted-exactly}
+use Rattle.table.proofs.Entries.{accepted-exactly}
 use Rattle.counts.specs.Counts.{binom}
 use Rattle.sets.specs.Order.{revolving, setAt, rankOf, isSet}
 use Rattle.sets.specs.Answers.{jobRanks}
@@ -86,27 +88,24 @@ pub job-accepts : (n size jobs job : ℕ)
 job-accepts n size jobs job = (λ t. there (t .0) (t .1), λ h. (_, job-told n size jobs (h .0) (h .1) (h .2 .some) (h .2 .few) job (h .3)))
   where
     there : (l : List ℕ) → jobRanks n size job jobs ≡ values l → (n ≤ 512) × (size ≤ 7) × Divided jobs × (job < jobs)
-    there l e = go (ltb 512 n) (ltb 7 size) (eqb jobs 0) (ltb 65536 jobs) (leb jobs job) refl refl refl refl refl e
-      where
-        go : (a b c d f : Bool) → ltb 512 n ≡ a → ltb 7 size ≡ b → eqb jobs 0 ≡ c → ltb 65536 jobs ≡ d → leb jobs job ≡ f
-            → cond a (refusal 12) (cond b (refusal 17) (cond (c || d || f) (refusal 19)
-            (values (start (binom n size) jobs job ∷ start (binom n size) jobs (suc job) ∷ [])))) ≡ values l
-            → (n ≤ 512) × (size ≤ 7) × Divided jobs × (job < jobs)
-        go true b c d f p q r s t e = absurd (values-refusal l 12 (sym e))
-        go false true c d f p q r s t e = absurd (values-refusal l 17 (sym e))
-        go false false true d f p q r s t e = absurd (values-refusal l 19 (sym e))
-        go false false false true f p q r s t e = absurd (values-refusal l 19 (sym e))
-        go false false false false true p q r s t e = absurd (values-refusal l 19 (sym e))
-        go false false false false false p q r s t e = (
-          ltb-false 512 n p,
-          ltb-false 7 size q,
-          record { some = pos jobs r; few = ltb-false 65536 jobs s },
-          leb-false jobs job t,
+    there l e =
+        let bounds = values (start (binom n size) jobs job ∷ start (binom n size) jobs (suc job) ∷ []) in
+        let wrong = eqb jobs 0 || ltb 65536 jobs || leb jobs job in
+        let third = cond wrong (refusal 19) bounds in
+        let a = test-passed refusal (λ t. t) (λ k. refl) (ltb 512 n) 12 (cond (ltb 7 size) (refusal 17) third) l e in
+        let b = test-passed refusal (λ t. t) (λ k. refl) (ltb 7 size) 17 third l (a .1) in
+        let c = test-passed refusal (λ t. t) (λ k. refl) wrong 19 bounds l (b .1) in
+        let two = or-none (eqb jobs 0 || ltb 65536 jobs) (leb jobs job) (c .0) in
+        let one = or-none (eqb jobs 0) (ltb 65536 jobs) (two .0) in (
+          ltb-false 512 n (a .0),
+          ltb-false 7 size (b .0),
+          record { some = positive jobs (one .0); few = ltb-false 65536 jobs (one .1) },
+          leb-false jobs job (two .1),
         )
-          where
-            pos : (k : ℕ) → eqb k 0 ≡ false → 0 < k
-            pos zero e = absurd (true≢false e)
-            pos (suc k) e = omega arith
+      where
+        positive : (k : ℕ) → eqb k 0 ≡ false → 0 < k
+        positive zero e = absurd (true≢false e)
+        positive (suc k) e = omega arith
 
 module _ (table : List ℕ) (shares masks notion size jobs : ℕ) (buffer : List ℕ) (asked : Asked table shares masks notion size buffer)
     (divided : Divided jobs) where

@@ -8,7 +8,7 @@
 --     keep-same          tests that say the same of every element keep the same ones
 --     keep-first         the first that is kept passes, and what holds of every element holds of it
 --     keep-place         it stands at a place, and the test fails at every place before
---     take-none          the first 0 elements
+--     take-none, drop-none     the first 0 elements; all but these
 --     keep-none, none-keep     none is kept exactly when the test fails on every element
 use Prim.Native.Nat.{ℕ, zero, suc, _+_, _<_, suc-le-suc}
 use native.Mathlib.Nat.{not-suc-le-zero, le-of-suc-le-suc, zero-lt-suc}
@@ -73,6 +73,10 @@ module _ {A : Type 0} where
   take-none [] = refl
   take-none (x ∷ l) = refl
 
+  pub drop-none : (l : List A) → drop 0 l ≡ l
+  drop-none [] = refl
+  drop-none (x ∷ l) = refl
+
   pub keep-place : (f : A → Bool) (l : List A) (x d : A) (later : List A) → keep f l ≡ x ∷ later
       → (i : ℕ) × (i < length l) × (getD l i d ≡ x) × (f x ≡ true) × ((j : ℕ) → j < i → f (getD l j d) ≡ false)
   keep-place f [] x d later e = let z : _≡_ {A = ℕ} 0 1 = cc in let w : ⊥ = omega (arith, z) in absurd w
@@ -95,15 +99,7 @@ module _ {A : Type 0} where
   keep-same f g (x ∷ l) e = ap₂ {C = List A} (λ b m. cond b (x ∷ m) m) (e .0) (keep-same f g l (e .1))
 
   pub keep-first : (f : A → Bool) (P : A → Type 0) (l : List A) (x : A) (later : List A) → Each P l → keep f l ≡ x ∷ later → P x × (f x ≡ true)
-  keep-first f P [] x later a e = absurd (nil-cons e)
-    where
-      nil-cons : {x : A} {l : List A} → _≡_ {A = List A} [] (x ∷ l) → ⊥
-      nil-cons e = let z : _≡_ {A = ℕ} 0 1 = cc in omega (arith, z)
-  keep-first f P (y ∷ l) x later a e = go (f y) refl e (keep-first f P l x later (a .1))
-    where
-      go : (b : Bool) → f y ≡ b → cond b (y ∷ keep f l) (keep f l) ≡ x ∷ later → (keep f l ≡ x ∷ later → P x × (f x ≡ true)) → P x × (f x ≡ true)
-      go true p q ih = let same : y ≡ x = cc in (subst P same (a .0), ap f (sym same) ∙ p)
-      go false p q ih = ih q
+  keep-first f P l x later each e = let r = keep-place f l x x later e in (subst P (r .2) (at-place P l x each (r .0) (r .1)), r .3)
 
   pub none-keep : (f : A → Bool) (l : List A) → Each (λ x. f x ≡ false) l → keep f l ≡ []
   none-keep f [] e = refl

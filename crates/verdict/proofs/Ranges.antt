@@ -1,11 +1,12 @@
 -- The range check's answers, path by path. Where a test refuses, nothing was written; else the search's result decides.
 --     range-answer                          the answer after the first tests
+--     range-accepted                        where all tests pass the first breaking set decides
 --     range-before, size-large, range-room, ranks-low, ranks-high, range-clean, range-found     the answers
 --     PassedRange, range-bytes              all tests passed
 use Prim.Native.Nat.{ℕ, _-_, _≤_, _<_}
 use native.Mathlib.Omega.{arith}
 use mathlib.Core.Path.{_≡_, sym, _∙_, ap, ap₂}
-use mathlib.Core.Bool.{cond, not, _&&_}
+use mathlib.Core.Bool.{false, cond, not, _&&_}
 use mathlib.Core.List.{List, [], _∷_}
 use borrow.Author.Tests.{le-leb, lt-leb, le-ltb, lt-ltb}
 use lib.Dec.{ltb, leb}
@@ -14,6 +15,7 @@ use Rattle.basics.specs.Folds.{keep}
 use Rattle.basics.specs.Told.{Lent, values, refusal, turnedDown}
 use Rattle.wires.specs.declared.Notion.{Notion}
 use Rattle.records.specs.Layout.{wireCount}
+use Rattle.table.proofs.Entries.{Accepted}
 use Rattle.counts.specs.Counts.{binom}
 use Rattle.sets.specs.Order.{setAt}
 use Rattle.sets.proofs.Rising.{isSet-parts}
@@ -21,7 +23,7 @@ use Rattle.sets.proofs.Revolving.{set-at-is-set, rank-of-set}
 use Rattle.verdict.specs.declared.Opened.{Opened}
 use Rattle.verdict.specs.declared.RangeAnswer.{RangeAnswer}
 use Rattle.verdict.specs.Search.{stretch, isBreaking, first, FirstRank}
-use Rattle.verdict.specs.Answers.{rangeTold, notionOf, openedTold, opens, written, firstRanked, rangeCheck}
+use Rattle.verdict.specs.Answers.{rangeTold, wrongNotion, notionOf, openedTold, opens, written, firstRanked, rangeCheck}
 use Rattle.verdict.proofs.Turns.{rank-first}
 use Rattle.verdict.proofs.Admitting.{opened-answer, opened-refusal}
 use Rattle.verdict.proofs.Entries.{stretch-decided, opened-for, short}
@@ -37,6 +39,16 @@ module _ (table : List ℕ) (shares masks notion size from to : ℕ) (buffer : L
       (cond (not (leb from to && leb to all)) (turnedDown 18 buffer)
       (firstRanked (wireCount table) (keep (isBreaking (notionOf notion) table shares masks) (stretch (wireCount table) size from to)) buffer)))
 
+  -- where all tests pass the first breaking set decides
+  pub range-accepted : Accepted table shares masks → wrongNotion notion ≡ false → size ≤ 7 → size ≤ length buffer → from ≤ to → to ≤ all
+      → rangeCheck table shares masks notion size from to buffer
+      ≡ firstRanked (wireCount table) (keep (isBreaking (notionOf notion) table shares masks) (stretch (wireCount table) size from to)) buffer
+  range-accepted sound known small room rises ends =
+      let shows : range-answer
+      ≡ firstRanked (wireCount table) (keep (isBreaking (notionOf notion) table shares masks) (stretch (wireCount table) size from to)) buffer =
+      simp (le-ltb 7 size small, le-ltb (length buffer) size room, le-leb from to rises, le-leb to all ends) in
+      opened-answer table shares masks notion (λ number. turnedDown number buffer) range-answer sound known ∙ shows
+
   -- what the entry is to tell
   abbrev asked : Lent
   asked = rangeCheck table shares masks notion size from to buffer
@@ -46,8 +58,9 @@ module _ (table : List ℕ) (shares masks notion size from to : ℕ) (buffer : L
 
   module _ (kind : Notion) (told : openedTold (Opened.For kind) ≡ opens table shares masks notion) where
     own-range : range-answer ≡ asked
-    own-range = sym (opened-answer table shares masks notion (λ number. turnedDown number buffer) range-answer kind
-        (opened-for table shares masks notion kind told))
+    own-range =
+        let o = opened-for table shares masks notion kind told in
+        sym (opened-answer table shares masks notion (λ number. turnedDown number buffer) range-answer (o .sound) (o .known))
 
     pub size-large : 7 < size → turnedDown 17 buffer ≡ asked
     size-large h = let e : turnedDown 17 buffer ≡ range-answer = simp (lt-ltb 7 size h) in e ∙ own-range
@@ -92,18 +105,11 @@ module _ (table : List ℕ) (shares masks notion size from to : ℕ) (buffer : L
   same-sets : keep (isBreaking kind table 8 64) (stretch (wireCount table) size from to) ≡ ranked
   same-sets = stretch-decided table shares masks notion kind (opened-for table shares masks notion kind (p .told)) size from to
 
-  shows-first : firstRanked (wireCount table) ranked buffer ≡ range-answer table shares masks notion size from to buffer
-  shows-first = simp (
-    le-ltb 7 size (p .small),
-    le-ltb (length buffer) size (p .room),
-    le-leb from to (p .rises),
-    le-leb to
-        (binom (wireCount table) size) (p .ends),
-  )
-
   decides : (l : List (List ℕ)) → ranked ≡ l → firstRanked (wireCount table) l buffer ≡ result
-  decides l e = ap (λ (l : List (List ℕ)). firstRanked (wireCount table) l buffer) (sym e) ∙ shows-first
-      ∙ own-range table shares masks notion size from to buffer kind (p .told)
+  decides l e =
+      let o = opened-for table shares masks notion kind (p .told) in
+      ap (λ (l : List (List ℕ)). firstRanked (wireCount table) l buffer) (sym e)
+      ∙ sym (range-accepted table shares masks notion size from to buffer (o .sound) (o .known) (p .small) (p .room) (p .rises) (p .ends))
 
   pub range-clean : to ≤ rank → rangeTold RangeAnswer.Clean buffer ≡ result
   range-clean h =

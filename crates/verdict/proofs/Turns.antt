@@ -2,15 +2,13 @@
 --     below-inside, set-inside     a set of a table's wires is inside the table
 --     looked-inside, looked        the set that was unranked into a buffer: its wires are the table's; what the test says of it
 --     searched-none, searched-suc  the sets of sizes up to 0, and up to one more
---     SizesClean, RanksClean       nothing found in the sizes below, and in the ranks below
---     no-size, no-rank             at the start
---     next-rank, next-size         after a turn
---     first-of-size                what is found first in a size is found first
---     none-found, set-found        the search's result, where nothing was found and where a set was
---     RangeClean, rank-start, rank-next, rank-found, rank-none     the same for the ranks of a range
+--     RangeClean                   nothing found in the ranks of a range up to one
+--     rank-start, rank-next        at the start, and after a turn
 --     rank-first                   what is found first in a range
-use Prim.Native.Nat.{ℕ, zero, suc, _+_, _-_, _≤_, _<_}
-use native.Mathlib.Nat.{le-of-suc-le-suc, eq-or-lt-of-le, not-suc-le-zero}
+--     rank-found, rank-none        the search's result, where a set was found and where none was
+--     SizesClean, no-size, next-size, first-of-size, none-found, set-found     the same for the sizes, with all ranks of each
+use Prim.Native.Nat.{ℕ, zero, suc, _+_, _-_, _≤_, _<_, zero-le}
+use native.Mathlib.Nat.{le-refl, le-of-suc-le-suc, eq-or-lt-of-le, not-suc-le-zero}
 use native.Mathlib.Omega.{arith}
 use mathlib.Core.Path.{_≡_, refl, sym, _∙_, ap, ap₂}
 use mathlib.Core.Logic.{_⊎_, inl, inr}
@@ -30,7 +28,7 @@ use Rattle.sets.specs.Order.{revolving, setAt, rising, below, isSet}
 use Rattle.sets.proofs.Rising.{isSet-parts}
 use Rattle.sets.proofs.Revolving.{revolving-length, set-at-is-set}
 use Rattle.verdict.specs.Search.{searched, stretch, isBreaking, first, FirstSet, FirstRank}
-use Rattle.verdict.proofs.Keeping.{take-none, keep-none-more, keep-found}
+use Rattle.verdict.proofs.Keeping.{take-none, drop-none, keep-none-more, keep-found}
 
 -- ---- one set
 
@@ -64,107 +62,6 @@ module _ (table : List ℕ) (n k rank : ℕ) (held old : List ℕ) (wires : n �
       ≡ isBreaking notion table 8 64 (setAt n k rank)
   unfolding isBreaking
   looked notion r e = e ∙ ap (λ (l : List ℕ). breaks notion 8 64 (map (wireAt table) l)) front
-
--- ---- sizes and ranks
-
-module _ (n : ℕ) where
-  pub searched-none : searched n 0 ≡ []
-  unfolding searched
-  searched-none = refl
-
-  pub searched-suc : (t : ℕ) → searched n (suc t) ≡ searched n t ++ revolving n (suc t)
-  unfolding searched
-  searched-suc t = refl
-
-module _ (test : List ℕ → Bool) (n : ℕ) where
-  -- the sizes from 1 up to, without, this one
-  unfoldable pub SizesClean : ℕ → Type 0
-  SizesClean size = (t : ℕ) → suc t ≡ size → keep test (searched n t) ≡ []
-
-  unfoldable pub RanksClean : ℕ → ℕ → Type 0
-  RanksClean size rank = keep test (take rank (revolving n size)) ≡ []
-
-  pub no-size : SizesClean 1
-  unfolding SizesClean searched
-  no-size zero e = refl
-  no-size (suc t) e = let z : ⊥ = omega arith in absurd z
-
-  pub no-rank : (size : ℕ) → RanksClean size 0
-  unfolding RanksClean
-  no-rank size = ap (keep test) (take-none (revolving n size))
-
-  pub next-rank : (size rank : ℕ) → rank < binom n size → RanksClean size rank → test (setAt n size rank) ≡ false → RanksClean size (rank + 1)
-  unfolding RanksClean
-  next-rank size rank h clean e = keep-none-more test (revolving n size) rank [] (omega (arith, revolving-length n size)) clean e
-
-  size-clean : (t : ℕ) → keep test (searched n t) ≡ [] → keep test (searched n (suc t)) ≡ keep test (revolving n (suc t))
-  size-clean t e =
-      ap (keep test) (searched-suc n t) ∙ keep-append test (searched n t) (revolving n (suc t))
-      ∙ ap {B = List (List ℕ)} (λ l. l ++ keep test (revolving n (suc t))) e
-
-  pub next-size : (size rank : ℕ) → SizesClean size → RanksClean size rank → binom n size ≤ rank → SizesClean (size + 1)
-  unfolding SizesClean RanksClean searched
-  next-size size rank sizes ranks h t e =
-      let same : t ≡ size = omega arith in
-      ap (λ (k : ℕ). keep test (searched n k)) same ∙ go size sizes whole
-    where
-      whole : keep test (revolving n size) ≡ []
-      whole = ap (keep test) (sym (take-all rank (revolving n size) (omega (arith, revolving-length n size)))) ∙ ranks
-
-      go : (size : ℕ) → ((t : ℕ) → suc t ≡ size → keep test (searched n t) ≡ []) → keep test (revolving n size) ≡ [] → keep test (searched n size)
-          ≡ []
-      go zero sizes whole = refl
-      go (suc t) sizes whole = size-clean t (sizes t refl) ∙ whole
-
-  pub none-found : (order size found : ℕ) (held : List ℕ) → found ≡ 0 → order < size → size ≤ order + 1 → SizesClean size
-      → FirstSet test (searched n order) found held
-  unfolding SizesClean
-  none-found order size found held nil low high clean =
-      let none : keep test (searched n order) ≡ [] = clean order (omega arith) in
-      record {
-        size-is = nil ∙ ap (λ (l : List (List ℕ)). length (first l)) (sym none);
-        set-is = ap (λ (i : ℕ). take i held) nil ∙ take-none held ∙ ap first (sym none);
-      }
-
-  -- the sets of larger sizes come after
-  searched-more : (size order : ℕ) → size ≤ order → (more : List (List ℕ)) × (searched n order ≡ searched n size ++ more)
-  searched-more size zero h = let e : size ≡ 0 = omega arith in ([], ap (searched n) (sym e) ∙ sym (append-nil (searched n size)))
-  searched-more size (suc order) h = go (eq-or-lt-of-le h) (searched-more size order)
-    where
-      go : (size ≡ suc order) ⊎ (size < suc order) → (size ≤ order → (more : List (List ℕ)) × (searched n order ≡ searched n size ++ more))
-          → (more : List (List ℕ)) × (searched n (suc order) ≡ searched n size ++ more)
-      go (inl e) ih = ([], ap (searched n) (sym e) ∙ sym (append-nil (searched n size)))
-      go (inr p) ih =
-          let r = ih (le-of-suc-le-suc p) in (
-            r .0 ++ revolving n (suc order),
-            searched-suc n order ∙ ap (λ (l : List (List ℕ)). l ++ revolving n (suc order)) (r .1)
-                ∙ append-assoc (searched n size) (r .0) (revolving n (suc order)),
-          )
-
-  -- what is found first in a size is found first
-  pub first-of-size : (t order : ℕ) (s : List ℕ) (later : List (List ℕ)) → keep test (searched n t) ≡ [] → suc t ≤ order
-      → keep test (revolving n (suc t)) ≡ s ∷ later → (rest : List (List ℕ)) × (keep test (searched n order) ≡ s ∷ rest)
-  first-of-size t order s later none h e =
-      let m = searched-more (suc t) order h in (
-        later ++ keep test (m .0),
-        ap (keep test) (m .1) ∙ keep-append test (searched n (suc t)) (m .0)
-            ∙ ap {B = List (List ℕ)} (λ l. l ++ keep test (m .0)) (size-clean t none ∙ e),
-      )
-
-  pub set-found : (size order rank : ℕ) (held old : List ℕ) → 1 ≤ size → size ≤ order → rank < binom n size → SizesClean size → RanksClean size rank
-      → true ≡ test (setAt n size rank) → held ≡ setAt n size rank ++ drop size old → FirstSet test (searched n order) size held
-  unfolding SizesClean RanksClean
-  set-found zero order rank held old some h counted sizes ranks e unranked = absurd (not-suc-le-zero some)
-  set-found (suc t) order rank held old some h counted sizes ranks e unranked =
-      let set = setAt n (suc t) rank in
-      let found =
-      first-of-size t order set (keep test (drop (suc rank) (revolving n (suc t)))) (sizes t refl) h
-      (keep-found test (revolving n (suc t)) rank [] (omega (arith, revolving-length n (suc t))) ranks (sym e)) in
-      let long : length set ≡ suc t = isSet-parts n (suc t) set (set-at-is-set n (suc t) rank counted) .0 in
-      record {
-        size-is = sym long ∙ ap (λ (l : List (List ℕ)). length (first l)) (sym (found .1));
-        set-is = ap (take (suc t)) unranked ∙ take-at set (drop (suc t) old) (suc t) long ∙ ap first (sym (found .1));
-      }
 
 -- ---- the ranks of a range
 
@@ -228,3 +125,100 @@ module _ (test : List ℕ → Bool) (n k from : ℕ) where
   unfolding RangeClean
   rank-none rank to held low high out clean =
       record { low = low; high = high; clean = clean; found = λ less. let z : ⊥ = omega arith in absurd z }
+
+-- ---- the sizes
+
+module _ (n : ℕ) where
+  pub searched-none : searched n 0 ≡ []
+  unfolding searched
+  searched-none = refl
+
+  pub searched-suc : (t : ℕ) → searched n (suc t) ≡ searched n t ++ revolving n (suc t)
+  unfolding searched
+  searched-suc t = refl
+
+-- the range of all ranks
+stretch-all : (n k to : ℕ) → binom n k ≤ to → stretch n k 0 to ≡ revolving n k
+stretch-all n k to h =
+    let same : to - 0 ≡ to = omega arith in
+    ap₂ {C = List (List ℕ)} take same (drop-none (revolving n k)) ∙ take-all to (revolving n k) (omega (arith, revolving-length n k))
+
+module _ (test : List ℕ → Bool) (n : ℕ) where
+  -- the sizes from 1 up to, without, this one
+  unfoldable pub SizesClean : ℕ → Type 0
+  SizesClean size = (t : ℕ) → suc t ≡ size → keep test (searched n t) ≡ []
+
+  pub no-size : SizesClean 1
+  unfolding SizesClean searched
+  no-size zero e = refl
+  no-size (suc t) e = let z : ⊥ = omega arith in absurd z
+
+  size-clean : (t : ℕ) → keep test (searched n t) ≡ [] → keep test (searched n (suc t)) ≡ keep test (revolving n (suc t))
+  size-clean t e =
+      ap (keep test) (searched-suc n t) ∙ keep-append test (searched n t) (revolving n (suc t))
+      ∙ ap {B = List (List ℕ)} (λ l. l ++ keep test (revolving n (suc t))) e
+
+  pub next-size : (size rank : ℕ) → SizesClean size → RangeClean test n size 0 rank → binom n size ≤ rank → SizesClean (size + 1)
+  unfolding SizesClean RangeClean searched
+  next-size size rank sizes ranks h t e =
+      let same : t ≡ size = omega arith in
+      ap (λ (k : ℕ). keep test (searched n k)) same ∙ go size sizes whole
+    where
+      whole : keep test (revolving n size) ≡ []
+      whole = ap (keep test) (sym (stretch-all n size rank h)) ∙ ranks
+
+      go : (size : ℕ) → ((t : ℕ) → suc t ≡ size → keep test (searched n t) ≡ []) → keep test (revolving n size) ≡ [] → keep test (searched n size)
+          ≡ []
+      go zero sizes whole = refl
+      go (suc t) sizes whole = size-clean t (sizes t refl) ∙ whole
+
+  pub none-found : (order size found : ℕ) (held : List ℕ) → found ≡ 0 → order < size → size ≤ order + 1 → SizesClean size
+      → FirstSet test (searched n order) found held
+  unfolding SizesClean
+  none-found order size found held nil low high clean =
+      let none : keep test (searched n order) ≡ [] = clean order (omega arith) in
+      record {
+        size-is = nil ∙ ap (λ (l : List (List ℕ)). length (first l)) (sym none);
+        set-is = ap (λ (i : ℕ). take i held) nil ∙ take-none held ∙ ap first (sym none);
+      }
+
+  -- the sets of larger sizes come after
+  searched-more : (size order : ℕ) → size ≤ order → (more : List (List ℕ)) × (searched n order ≡ searched n size ++ more)
+  searched-more size zero h = let e : size ≡ 0 = omega arith in ([], ap (searched n) (sym e) ∙ sym (append-nil (searched n size)))
+  searched-more size (suc order) h = go (eq-or-lt-of-le h) (searched-more size order)
+    where
+      go : (size ≡ suc order) ⊎ (size < suc order) → (size ≤ order → (more : List (List ℕ)) × (searched n order ≡ searched n size ++ more))
+          → (more : List (List ℕ)) × (searched n (suc order) ≡ searched n size ++ more)
+      go (inl e) ih = ([], ap (searched n) (sym e) ∙ sym (append-nil (searched n size)))
+      go (inr p) ih =
+          let r = ih (le-of-suc-le-suc p) in (
+            r .0 ++ revolving n (suc order),
+            searched-suc n order ∙ ap (λ (l : List (List ℕ)). l ++ revolving n (suc order)) (r .1)
+                ∙ append-assoc (searched n size) (r .0) (revolving n (suc order)),
+          )
+
+  -- what is found first in a size is found first
+  pub first-of-size : (t order : ℕ) (s : List ℕ) (later : List (List ℕ)) → keep test (searched n t) ≡ [] → suc t ≤ order
+      → keep test (revolving n (suc t)) ≡ s ∷ later → (rest : List (List ℕ)) × (keep test (searched n order) ≡ s ∷ rest)
+  first-of-size t order s later none h e =
+      let m = searched-more (suc t) order h in (
+        later ++ keep test (m .0),
+        ap (keep test) (m .1) ∙ keep-append test (searched n (suc t)) (m .0)
+            ∙ ap {B = List (List ℕ)} (λ l. l ++ keep test (m .0)) (size-clean t none ∙ e),
+      )
+
+  pub set-found : (size order rank : ℕ) (held old : List ℕ) → 1 ≤ size → size ≤ order → rank < binom n size → SizesClean size
+      → RangeClean test n size 0 rank
+      → true ≡ test (setAt n size rank) → held ≡ setAt n size rank ++ drop size old → FirstSet test (searched n order) size held
+  unfolding SizesClean RangeClean
+  set-found zero order rank held old some h counted sizes ranks e unranked = absurd (not-suc-le-zero some)
+  set-found (suc t) order rank held old some h counted sizes ranks e unranked =
+      let set = setAt n (suc t) rank in
+      let all = binom n (suc t) in
+      let here = rank-first test n (suc t) 0 rank all zero-le counted (le-refl all) ranks (sym e) in
+      let found = first-of-size t order set (here .0) (sizes t refl) h (ap (keep test) (sym (stretch-all n (suc t) all (le-refl all))) ∙ here .1) in
+      let long : length set ≡ suc t = isSet-parts n (suc t) set (set-at-is-set n (suc t) rank counted) .0 in
+      record {
+        size-is = sym long ∙ ap (λ (l : List (List ℕ)). length (first l)) (sym (found .1));
+        set-is = ap (take (suc t)) unranked ∙ take-at set (drop (suc t) old) (suc t) long ∙ ap first (sym (found .1));
+      }

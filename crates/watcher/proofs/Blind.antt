@@ -14,13 +14,14 @@ use lib.ListN.{length, length-map}
 use lib.Dec.{eqb}
 use Rattle.basics.specs.Folds.{parity, count, oneIf, upTo}
 use Rattle.basics.proofs.Tests.{and-both, xor-comm, xor-assoc, xor-and, xor-true}
-use Rattle.basics.proofs.Folds.{fold-cong, fold-map, some-where}
+use Rattle.basics.proofs.Folds.{fold-cong, some-where}
 use Rattle.wires.specs.Wires.{Terms, Wire, Input, value, total, swap, dependsA, masked}
-use Rattle.wires.proofs.Value.{parity-both, value-total, value-agree}
+use Rattle.wires.proofs.Value.{parity-both, value-agree}
 use Rattle.wires.proofs.Dependence.{parity-one}
 use Rattle.watcher.specs.Watcher.{bitLists, maskOf, shown, equal, comes, Agree}
 use Rattle.watcher.proofs.Counting.{sum, sum-both, sum-times, sum-exchange}
-use Rattle.watcher.proofs.Bits.{add, pick, single, bit-add, single-bit, single-length, pick-map, bits-cong, bits-some, bits-count}
+use Rattle.watcher.proofs.Bits.{add, pick, single, bit-add, single-bit, single-length, bits-cong, bits-some, bits-count}
+use Rattle.watcher.proofs.Patterns.{shown-sum}
 use Rattle.watcher.proofs.Halves.{halves}
 use Rattle.watcher.proofs.Shares.{named}
 use Rattle.watcher.proofs.Apart.{differ, told-apart}
@@ -80,15 +81,8 @@ module _ (n m : ℕ) (v : List Wire) (p : List Bool) (long : length p ≡ length
   by-setting x r =
       ap (λ (k : ℕ). k + k + oneIf (equal (shown n m x r v) p) * choices)
       (fold-cong _+_ 0 (λ l. oneIf (off x r l)) (λ l. oneIf (differ (shown n m x r v) p l)) (bitLists (length p))
-      (λ l. ap (λ (b : Bool). oneIf (xor b (parity (λ b. b) (pick l p)))) (seen l)))
-      ∙ told-apart (shown n m x r v) p (length-map v val ∙ sym long)
-    where
-      val : Wire → Bool
-      val w = value n m x (maskOf r) (w .terms)
-
-      seen : (l : List Bool) → value n m x (maskOf r) (total (pick l v)) ≡ parity (λ b. b) (pick l (shown n m x r v))
-      seen l =
-          value-total n m x (maskOf r) (pick l v) ∙ sym (fold-map xor false val (λ b. b) (pick l v)) ∙ ap (parity (λ b. b)) (pick-map val l v)
+      (λ l. ap (λ (b : Bool). oneIf (xor b (parity (λ b. b) (pick l p)))) (sym (shown-sum n m x r l v))))
+      ∙ told-apart (shown n m x r v) p (length-map v (λ w. value n m x (maskOf r) (w .terms)) ∙ sym long)
 
   of-all : (x : Input) → pairs x + pairs x + comes n m x v p * choices ≡ sum (λ r. choices) (bitLists m)
   unfolding comes

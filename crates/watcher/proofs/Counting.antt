@@ -14,7 +14,7 @@ use mathlib.Core.Bool.{Bool, true, false, not, _&&_, _||_, true≢false, false�
 use mathlib.Core.List.{List, [], _∷_}
 use Rattle.basics.specs.Folds.{fold, some, count, oneIf}
 use Rattle.basics.proofs.Tests.{or-none}
-use Rattle.basics.proofs.Folds.{fold-cong, fold-hom, fold-both, fold-exchange}
+use Rattle.basics.proofs.Folds.{fold-cong, fold-hom, fold-unit, fold-both, fold-exchange}
 
 module _ {A : Type 0} where
   abbrev pub sum : (A → ℕ) → List A → ℕ
@@ -32,15 +32,6 @@ module _ {A : Type 0} where
 
   pub sum-exchange : {C : Type 0} (f : A → C → ℕ) (l : List A) (k : List C) → sum (λ x. fold _+_ 0 (f x) k) l ≡ fold _+_ 0 (λ y. sum (λ x. f x y) l) k
   sum-exchange = fold-exchange _+_ 0 zero-add add-comm add-assoc
-
-  pub count-le : (f g : A → Bool) (l : List A) → ((x : A) → f x ≡ true → g x ≡ true) → count f l ≤ count g l
-  count-le f g l h = sum-le (λ x. oneIf (f x)) (λ x. oneIf (g x)) l (λ x. go (f x) (g x) (h x))
-    where
-      go : (a b : Bool) → (a ≡ true → b ≡ true) → oneIf a ≤ oneIf b
-      go true true e = le-refl 1
-      go true false e = absurd (true≢false (sym (e refl)))
-      go false true e = omega arith
-      go false false e = le-refl 0
 
   pub count-split : (f g : A → Bool) (l : List A) → count (λ x. f x && g x) l + count (λ x. f x && not (g x)) l ≡ count f l
   count-split f g l =
@@ -81,3 +72,11 @@ module _ {A : Type 0} (f g : A → Bool) where
       one true false e = omega arith
       one false true e = absurd (true≢false e)
       one false false e = le-refl 0
+
+module _ {A : Type 0} where
+  pub count-le : (f g : A → Bool) (l : List A) → ((x : A) → f x ≡ true → g x ≡ true) → count f l ≤ count g l
+  count-le f g l h = covered g f l (fold-unit _||_ false (λ b. refl) (λ x. f x && not (g x)) l (λ x. go (f x) (g x) (h x)))
+    where
+      go : (a b : Bool) → (a ≡ true → b ≡ true) → (a && not b) ≡ false
+      go true b e = ap not (e refl)
+      go false b e = refl

@@ -14,15 +14,14 @@ use lib.ListN.{length, replicate, length-replicate, length-map}
 use lib.Dec.{eqb}
 use Rattle.basics.specs.Folds.{parity, oneIf, upTo}
 use Rattle.basics.proofs.Tests.{xor-false}
-use Rattle.basics.proofs.Folds.{fold-map, fold-unit, fold-below, never}
+use Rattle.basics.proofs.Folds.{fold-unit, fold-below, never}
 use Rattle.wires.specs.declared.Notion.{Notion}
-use Rattle.wires.specs.Wires.{Terms, Wire, Input, value, total, swap, swapInput, flipA, flipB, dependsA, dependsB, masked}
-use Rattle.wires.proofs.Value.{value-total, value-swap}
-use Rattle.wires.proofs.Dependence.{depends-seen}
+use Rattle.wires.specs.Wires.{Terms, Wire, Input, value, total, flipA, flipB, dependsA, dependsB, masked}
+use Rattle.wires.proofs.Dependence.{depends-seen, depends-seen-b}
 use Rattle.watcher.specs.Watcher.{bitLists, maskOf, shown, equal, comes, Agree, Choice}
 use Rattle.watcher.proofs.Counting.{count-some}
-use Rattle.watcher.proofs.Bits.{pick, pick-map, bits-some}
-use Rattle.watcher.proofs.Patterns.{equal-self, equal-exactly}
+use Rattle.watcher.proofs.Bits.{pick, bits-some}
+use Rattle.watcher.proofs.Patterns.{equal-self, equal-exactly, shown-sum}
 
 module _ (n m : ℕ) (x : Input) where
   pub value-unmasked : (r s : ℕ → Bool) (t : Terms) → ((k : ℕ) → k < m → t .mask k ≡ false) → value n m x r t ≡ value n m x s t
@@ -33,17 +32,16 @@ module _ (n m : ℕ) (x : Input) where
       (fold-below xor false m (λ k. t .mask k && r k) (λ k. t .mask k && s k)
       (λ k h. ap (λ (b : Bool). b && r k) (none k h) ∙ sym (ap (λ (b : Bool). b && s k) (none k h))))
 
-  shown-sum : (r l : List Bool) (v : List Wire) → parity (λ b. b) (pick l (shown n m x r v)) ≡ value n m x (maskOf r) (total (pick l v))
-  shown-sum r l v =
-      let val : Wire → Bool = λ w. value n m x (maskOf r) (w .terms) in
-      ap (parity (λ b. b)) (sym (pick-map val l v)) ∙ fold-map xor false val (λ b. b) (pick l v) ∙ sym (value-total n m x (maskOf r) (pick l v))
-
   -- the pattern that a setting shows comes from that setting at least
   comes-once : (r : List Bool) (v : List Wire) → length r ≡ m → 1 ≤ comes n m x v (shown n m x r v)
   unfolding comes
   comes-once r v e =
       let shows : List Bool → Bool = λ s. equal (shown n m x s v) (shown n m x r v) in
       count-some shows (bitLists m) (bits-some m shows r e (equal-self (shown n m x r v)))
+
+held : (b : Bool) → (b ≡ false → ⊥) → b ≡ true
+held true h = refl
+held false h = absurd (h refl)
 
 -- changing a share that is not chosen changes no chosen one
 untouched : (chosen : ℕ → Bool) (i : ℕ) → chosen i ≡ false → (f : ℕ → Bool) (k : ℕ) → chosen k ≡ true → f k ≡ xor (f k) (eqb k i)
@@ -81,24 +79,13 @@ module _ (notion : Notion) (n m : ℕ) (v : List Wire) (c : Choice notion n m v)
           ∙ ap (λ (q : List Bool). parity (λ b. b) (pick l q)) (sym (equal-exactly (shown n m y r v) p .0 e)) ∙ shown-sum n m y r l v))
 
   pub needed : (i : ℕ) → i < n → dependsA n part i ≡ true → c .chosenA i ≡ true
-  needed i below d = go (c .chosenA i) refl
-    where
-      go : (b : Bool) → c .chosenA i ≡ b → b ≡ true
-      go true e = refl
-      go false e =
-          let s = depends-seen n m i part below d in
-          absurd (not-blind (s .0) (flipA i (s .0))
-          (record { onA = λ k b q. untouched (c .chosenA) i e (s .0 .ofA) k q; onB = λ k b q. refl })
-          (s .1))
+  needed i below d =
+      held (c .chosenA i)
+      (λ out. let s = depends-seen n m i part below d in
+      not-blind (s .0) (flipA i (s .0)) (record { onA = λ k b q. untouched (c .chosenA) i out (s .0 .ofA) k q; onB = λ k b q. refl }) (s .1))
 
   pub needed-b : (j : ℕ) → j < n → dependsB n part j ≡ true → c .chosenB j ≡ true
-  needed-b j below d = go (c .chosenB j) refl
-    where
-      go : (b : Bool) → c .chosenB j ≡ b → b ≡ true
-      go true e = refl
-      go false e =
-          let s = depends-seen n m j (swap part) below d in
-          let x = swapInput (s .0) in
-          absurd (not-blind x (flipB j x)
-          (record { onA = λ k b q. refl; onB = λ k b q. untouched (c .chosenB) j e (x .ofB) k q })
-          (λ r e. s .1 r (value-swap n m x r part ∙ e ∙ sym (value-swap n m (flipB j x) r part))))
+  needed-b j below d =
+      held (c .chosenB j)
+      (λ out. let s = depends-seen-b n m j part below d in
+      not-blind (s .0) (flipB j (s .0)) (record { onA = λ k b q. refl; onB = λ k b q. untouched (c .chosenB) j out (s .0 .ofB) k q }) (s .1))

@@ -4,6 +4,7 @@
 --     settings-number              there are 2 ^ m settings, with no masks one
 --     comes-exactly                a pattern comes from a setting exactly when each watched wire has its bit as its value
 --     patterns-of-all              every setting shows exactly one pattern
+--     shown-sum                    the sum of what some of the wires show is the value of their sum
 use Prim.Native.Nat.{ℕ, zero, suc, _+_, _^_, _<_, suc-le-suc}
 use native.Mathlib.Nat.{not-suc-le-zero, le-of-suc-le-suc, zero-lt-suc, zero-add, add-zero, add-comm, add-assoc, suc-inj, suc-ne-zero, two-pow-succ}
 use mathlib.Core.Path.{_≡_, refl, sym, _∙_, ap, ap₂}
@@ -13,12 +14,13 @@ use mathlib.Core.List.{List, [], _∷_, map}
 use borrow.Author.Tests.{not-true, eq-eqb}
 use lib.ListN.{length, getD, length-append, length-map}
 use lib.Dec.{eqb, eqb·zero-suc, eqb·suc-zero, eqb·suc-suc}
-use Rattle.basics.specs.Folds.{fold, oneIf, count}
+use Rattle.basics.specs.Folds.{fold, parity, oneIf, count}
 use Rattle.basics.proofs.Tests.{and-left, and-right, and-both, xor-self, xor-same}
-use Rattle.basics.proofs.Folds.{fold-cong, fold-unit, fold-exchange, count-all}
-use Rattle.wires.specs.Wires.{Wire, Input, value}
+use Rattle.basics.proofs.Folds.{fold-cong, fold-map, fold-unit, fold-exchange, count-all}
+use Rattle.wires.specs.Wires.{Wire, Input, value, total}
+use Rattle.wires.proofs.Value.{value-total}
 use Rattle.watcher.specs.Watcher.{bitLists, maskOf, shown, equal, comes}
-use Rattle.watcher.proofs.Bits.{bits-first}
+use Rattle.watcher.proofs.Bits.{pick, pick-map, bits-first}
 
 pub equal-self : (p : List Bool) → equal p p ≡ true
 equal-self [] = refl
@@ -38,6 +40,13 @@ equal-exactly p q = (there p q, λ e. ap (equal p) (sym e) ∙ equal-self p)
     there [] (c ∷ q) e = absurd (false≢true e)
     there (b ∷ p) [] e = absurd (false≢true e)
     there (b ∷ p) (c ∷ q) e = ap₂ {C = List Bool} _∷_ (same-bit b c p q e) (there p q (same-rest b c p q e))
+
+-- the sum of what some of the wires show is the value of their sum
+pub shown-sum : (n m : ℕ) (x : Input) (r l : List Bool) (v : List Wire)
+    → parity (λ b. b) (pick l (shown n m x r v)) ≡ value n m x (maskOf r) (total (pick l v))
+shown-sum n m x r l v =
+    let val : Wire → Bool = λ w. value n m x (maskOf r) (w .terms) in
+    ap (parity (λ b. b)) (sym (pick-map val l v)) ∙ fold-map xor false val (λ b. b) (pick l v) ∙ sym (value-total n m x (maskOf r) (pick l v))
 
 nowhere : (m : ℕ) → count (λ r. false) (bitLists m) ≡ 0
 nowhere m = fold-unit _+_ 0 zero-add (λ r. 0) (bitLists m) (λ r. refl)

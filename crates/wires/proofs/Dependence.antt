@@ -3,7 +3,7 @@
 --     rate                the bit by which the value changes with share i of a
 --     value-flip          the value of the input with that share changed
 --     seen                where terms depend on share i of a, some input makes the rate 1
---     depends-seen        where terms depend on share i of a, one input shows it whatever the masks are
+--     depends-seen, depends-seen-b     where terms depend on a share of a, of b, one input shows it whatever the masks are
 --     depends-exactly     terms depend on share i of a exactly when two inputs that differ only there give them different values
 --     depends-exactly-b   the same for share j of b
 --     zero-blank          terms whose value is 0 everywhere have no bit set
@@ -116,6 +116,14 @@ depends-seen n m i t h d =
     let w = seen n i t d in
     (w .0, λ r e. changed (value n m (w .0) r t) (e ∙ value-flip n m i h (w .0) r t ∙ ap (xor (value n m (w .0) r t)) (w .1)))
 
+-- and so for b, with the operands exchanged
+pub depends-seen-b : (n m j : ℕ) (t : Terms) → j < n → dependsB n t j ≡ true
+    → (x : Input) × ((r : ℕ → Bool) → value n m x r t ≡ value n m (flipB j x) r t → ⊥)
+depends-seen-b n m j t h d =
+    let w = depends-seen n m j (swap t) h d in
+    let x = swapInput (w .0) in
+    (x, λ r e. w .1 r (value-swap n m x r t ∙ e ∙ sym (value-swap n m (flipB j x) r t)))
+
 pub depends-exactly : (n m i : ℕ) (t : Terms) → i < n
     → (dependsA n t i ≡ true) ↔ ((x : Input) × (r : ℕ → Bool) × (value n m x r t ≡ value n m (flipA i x) r t → ⊥))
 depends-exactly n m i t h = (λ d. let w = depends-seen n m i t h d in (w .0, λ k. false, w .1 (λ k. false)), back)
@@ -136,12 +144,11 @@ depends-exactly n m i t h = (λ d. let w = depends-seen n m i t h d in (w .0, λ
 
 pub depends-exactly-b : (n m j : ℕ) (t : Terms) → j < n
     → (dependsB n t j ≡ true) ↔ ((x : Input) × (r : ℕ → Bool) × (value n m x r t ≡ value n m (flipB j x) r t → ⊥))
-depends-exactly-b n m j t h =
-    let iff = depends-exactly n m j (swap t) h in (
-      λ d. let w = iff .0 d in
-          (swapInput (w .0), w .1, λ e. w .2 (value-swap n m (swapInput (w .0)) (w .1) t ∙ e ∙ sym (value-swap n m (flipB j (swapInput (w .0))) (w .1) t))),
-      λ w. iff .1 (swapInput (w .0), w .1, λ e. w .2 (sym (value-swap n m (w .0) (w .1) t) ∙ e ∙ value-swap n m (flipB j (w .0)) (w .1) t)),
-    )
+depends-exactly-b n m j t h = (
+  λ d. let w = depends-seen-b n m j t h d in (w .0, λ k. false, w .1 (λ k. false)),
+  λ w. depends-exactly n m j (swap t) h .1
+      (swapInput (w .0), w .1, λ e. w .2 (sym (value-swap n m (w .0) (w .1) t) ∙ e ∙ value-swap n m (flipB j (w .0)) (w .1) t)),
+)
 
 module _ (n m : ℕ) (t : Terms) where
   -- with all shares 0 the masks alone are left

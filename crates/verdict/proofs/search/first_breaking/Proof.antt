@@ -1,19 +1,19 @@
 -- `verdict::search::first_breaking` meets its contract: before each turn nothing was found in the sizes and ranks below, and a set that
 -- breaks is then the first. Assumes nothing.
-use Prim.Native.Nat.{_+_, _-_, _≤_}
+use Prim.Native.Nat.{_+_, _-_, _≤_, zero-le}
 use native.Mathlib.Omega.{arith}
 use mathlib.Core.Path.{_≡_, refl, sym, _∙_}
 use lib.ListN.{length}
 use borrow.Author.Needs.{needs}
 use Rattle.records.specs.Layout.{wireCount}
 use Rattle.verdict.specs.Search.{isBreaking}
-use Rattle.verdict.proofs.Turns.{SizesClean, RanksClean, no-size, no-rank, next-rank, next-size, none-found, set-found}
+use Rattle.verdict.proofs.Turns.{RangeClean, rank-start, rank-next, SizesClean, no-size, next-size, none-found, set-found}
 use Rattle.verdict.proofs.search.first_breaking.Statement.{statement}
 use Rattle.verdict.proofs.search.first_breaking.Tie as tie
 
 abbrev Inv-loop : tie.InvT-loop
 Inv-loop table notion order probes₀ counts wires found₀ size sets rank₀ probes found rank =
-    RanksClean (isBreaking notion table 8 64) (wireCount table) size rank × (found ≡ 0) × (length probes ≡ length probes₀)
+    RangeClean (isBreaking notion table 8 64) (wireCount table) size 0 rank × (found ≡ 0) × (length probes ≡ length probes₀)
 
 abbrev μ-loop : tie.MeasureT-loop
 μ-loop table notion order probes₀ counts wires found₀ size sets rank₀ probes found rank = sets - rank
@@ -36,7 +36,7 @@ count-requires : tie.Need-count-requires Inv-loop μ-loop Inv-search μ-search
 count-requires c κs = search needs
 
 loop-holds : tie.Need-loop-holds Inv-loop μ-loop Inv-search μ-search
-loop-holds c = (no-rank _ _ _, c .before .before .before .search .inv .1, refl)
+loop-holds c = (rank-start _ _ _ 0, c .before .before .before .search .inv .1, refl)
 
 rank-breaks-requires : tie.Need-rank-breaks-requires Inv-loop μ-loop Inv-search μ-search
 rank-breaks-requires c κs = search needs
@@ -51,7 +51,7 @@ loop-again : tie.Need-loop-again Inv-loop μ-loop Inv-search μ-search
 loop-again c =
     let l = c .before .before .before .before .before .before .before .loop in
     let looked = c .before .before .before .rank-breaks .ensures in
-    (next-rank _ _ _ _ (search needs) (l .inv .0) (sym (looked .0) ∙ c .if1 .left), l .inv .1, search needs)
+    (rank-next _ _ _ 0 _ zero-le (search needs) (l .inv .0) (sym (looked .0) ∙ c .if1 .left), l .inv .1, search needs)
 
 add-size : tie.Need-add-size Inv-loop μ-loop Inv-search μ-search
 add-size c = search needs
