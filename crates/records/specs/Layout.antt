@@ -9,9 +9,11 @@
 --     wireCount, wires    how many wires a table has, and the wires in their order
 --     inside              every wire of a set is one of the table's
 --     termsOf             the terms that the code's sum of records stands for
+--     noSum, plusSum      the sum of no records; two sums added bit by bit without carry
 use Prim.Native.Nat.{ℕ, _+_, _*_, _/_}
 use mathlib.Core.Bool.{Bool, _&&_}
 use mathlib.Core.List.{List, map}
+use lib.Bits.{bitXor}
 use lib.Dec.{eqb, ltb}
 use lib.ListN.{length, take, drop}
 use Rattle.basics.specs.Folds.{every, upTo}
@@ -61,3 +63,14 @@ inside table set = every (λ wire. ltb wire (wireCount table)) set
 
 abbrev pub termsOf : Sum → Terms
 termsOf s = decodeTerms (s .products) (s .masks) (s .«shares_a») (s .«shares_b»)
+
+abbrev pub noSum : Sum
+noSum = record { products = 0; masks = 0; «shares_a» = 0; «shares_b» = 0 }
+
+abbrev pub plusSum : Sum → Sum → Sum
+plusSum s t = record {
+  products = bitXor (s .products) (t .products);
+  masks = bitXor (s .masks) (t .masks);
+  «shares_a» = bitXor (s .«shares_a») (t .«shares_a»);
+  «shares_b» = bitXor (s .«shares_b») (t .«shares_b»);
+}

@@ -8,7 +8,7 @@ ghost use Rattle.basics.specs.Folds.{some, upTo};
 ghost use Rattle.wires.specs.Wires.{none, plus, total, SumOfValues, countA, countB, allowed, breaks, dependsA, dependsB};
 ghost use Rattle.wires.specs.Function.{outers};
 ghost use Rattle.records.specs.Words.{bit};
-ghost use Rattle.records.specs.Layout.{wireAt, wireCount, wires, inside, termsOf};
+ghost use Rattle.records.specs.Layout.{wireAt, wireCount, wires, inside, termsOf, noSum, plusSum};
 use super::layout::MASKS_AT;
 use super::layout::OUTER_AT;
 use super::layout::RECORD_BYTES;
@@ -63,6 +63,7 @@ pub fn is_outer(table: &[u8], wire: usize) -> bool
 // Two sums added.
 pub fn added(s: Sum, t: Sum) -> Sum
     ensures { λ r. ⌜ termsOf r ≡ plus (termsOf s) (termsOf t) ⌝ }
+    ensures { λ r. ⌜ r ≡ plusSum s t ⌝ }
 {
     Sum {
         products: s.products ^ t.products,
@@ -73,8 +74,9 @@ pub fn added(s: Sum, t: Sum) -> Sum
 }
 
 // The sum of no records.
-fn nothing() -> Sum
+pub fn nothing() -> Sum
     ensures { λ r. ⌜ termsOf r ≡ none ⌝ }
+    ensures { λ r. ⌜ r ≡ noSum ⌝ }
 {
     Sum {
         products: 0,

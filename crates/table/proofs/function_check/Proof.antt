@@ -49,7 +49,7 @@ returns-3 c =
     ∙ c .before .before .before .before .before .before .before .before .before .table-check .ensures)
     _ _ true _ _ _ refl (c .before .before .before .before .before .before .if1 .left) (c .before .before .before .before .before .if2 .left)
     (c .before .before .before .before .sum-of-outers .ensures .0) (c .before .before .before .function-record .ensures)
-    (c .before .before .added .ensures) (c .before .is-blank .ensures) (c .if3 .taken)
+    (c .before .before .added .ensures .0) (c .before .is-blank .ensures) (c .if3 .taken)
 
 returns-4 : tie.Need-returns-4
 returns-4 c = refused-before _ _ _ _ _ (ap tableTold (sym (c .before .tested .given .1)) ∙ c .before .before .before .table-check .ensures)
@@ -61,7 +61,7 @@ returns-5 c =
     ∙ c .before .before .before .before .before .before .before .before .before .table-check .ensures)
     _ _ false _ _ _ refl (c .before .before .before .before .before .before .if1 .left) (c .before .before .before .before .before .if2 .left)
     (c .before .before .before .before .sum-of-outers .ensures .0) (c .before .before .before .function-record .ensures)
-    (c .before .before .added .ensures) (c .before .is-blank .ensures) (c .if3 .left)
+    (c .before .before .added .ensures .0) (c .before .is-blank .ensures) (c .if3 .left)
 
 pub function-check-spec : {M : Type 1} → statement M
 function-check-spec =

@@ -25,7 +25,7 @@ nothing-requires c κs = search needs
 
 loop-holds : tie.Need-loop-holds Inv-loop μ-loop
 unfolding upTo
-loop-holds c = (zero-le, c .nothing .ensures)
+loop-holds c = (zero-le, c .nothing .ensures .0)
 
 is-outer-requires : tie.Need-is-outer-requires Inv-loop μ-loop
 is-outer-requires c κs = search needs
@@ -46,7 +46,7 @@ loop-again : tie.Need-loop-again Inv-loop μ-loop
 loop-again c = (
   omega (arith, c .before .before .loop-test .taken),
   ⊎-elim
-      (λ w. ap termsOf (w .3) ∙ w .2 .ensures ∙ ap (plus (termsOf (c .before .before .before .loop .sum))) (w .1 .ensures)
+      (λ w. ap termsOf (w .3) ∙ w .2 .ensures .0 ∙ ap (plus (termsOf (c .before .before .before .loop .sum))) (w .1 .ensures)
       ∙ outers-taken _ _ _ (sym (c .before .is-outer .ensures) ∙ w .0 .taken) (c .before .before .before .loop .inv .1))
       (λ w. ap termsOf (w .1) ∙ outers-left _ _ _ (sym (c .before .is-outer .ensures) ∙ w .0 .left) (c .before .before .before .loop .inv .1))
       (c .if1 .came),

@@ -22,7 +22,7 @@ nothing-requires : tie.Need-nothing-requires Inv-loop μ-loop
 nothing-requires c κs = search needs
 
 loop-holds : tie.Need-loop-holds Inv-loop μ-loop
-loop-holds c = (zero-le, c .nothing .ensures)
+loop-holds c = (zero-le, c .nothing .ensures .0)
 
 mul-wire-record : tie.Need-mul-wire-record Inv-loop μ-loop
 mul-wire-record c = search needs
@@ -48,7 +48,7 @@ loop-less c = search needs
 loop-again : tie.Need-loop-again Inv-loop μ-loop
 loop-again c = (
   omega (arith, c .before .before .before .loop-test .taken),
-  c .added .ensures
+  c .added .ensures .0
       ∙ ap (plus (termsOf (c .before .before .before .before .loop .sum))) (c .before .wire-record .ensures)
       ∙ total-more _ _ _ _ (c .before .before .before .loop-test .taken) (c .before .before .before .before .loop .inv .1),
 )

@@ -1,0 +1,51 @@
+-- What is true of a description text.
+--     Running       laws of the run
+--     Places        bytes at places of a text
+--     Numbers       numbers of masks, and the word that has their bits
+--     Names         names of masks, spelled and read
+--     Spelling      symbols as they are spelled and as they are read
+--     HeaderNames   names in the second header line
+--     HeaderLines   the two header lines
+--     Events        the events of items, and the wires that they make
+--     Encoding      what is encoded is decoded
+--     Sums          what sums of symbols mean, and that they fit into a record
+--     Fitting       the wires of a description fit into records, and their parts lie in the text
+--     Tables        the records of a description's wires as a table
+--     Steps         what is done at a byte
+--     Passing       the run at a byte
+--     After         the state after the items of a group
+--     Totals        sums added in parts
+--     Seeing        the symbols seen, as a sum and as a list
+--     Tracing       the run lists the wires of events
+--     Following     the run follows items that are spelled
+--     Outputs       the run over output lines that are spelled
+--     Finding       the rest of a text, where the run over it is done
+--     Ends          the text's end and a line's end, where the run is done
+--     Found         the output lines that a text spells, where the run is done
+--     Exactly       a text is read exactly when it spells a description within the limits
+--     Samples       examples, proved by running the definitions
+pub mod Running
+pub mod Places
+pub mod Numbers
+pub mod Names
+pub mod Spelling
+pub mod HeaderNames
+pub mod HeaderLines
+pub mod Events
+pub mod Encoding
+pub mod Sums
+pub mod Fitting
+pub mod Tables
+pub mod Steps
+pub mod Passing
+pub mod After
+pub mod Totals
+pub mod Seeing
+pub mod Tracing
+pub mod Following
+pub mod Outputs
+pub mod Finding
+pub mod Ends
+pub mod Found
+pub mod Exactly
+pub mod Samples

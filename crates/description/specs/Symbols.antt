@@ -1,0 +1,97 @@
+-- Symbols (scope, "The description text"): `s` and two digits i j, the product of share i of a and share j of b; `a` or `b` and one digit, that
+-- share; `r` and a number, that mask.
+--     symbolSum s              the sum that names this symbol alone
+--     isIn s t                 whether a sum names the symbol
+--     nameLength k             how many bytes the name of mask k has
+--     spelling s               the bytes of a symbol
+--     maskAt l                 the mask whose name stands at the start of l: r and a number 0 to 63 without leading zeros
+--     symbolRead n d w         what the run of bytes w is, for n shares and the declared masks d
+use Prim.Native.Nat.{ℕ, _+_, _*_, _-_, _/_, _%_, _^_}
+use mathlib.Core.Bool.{Bool, cond, _&&_, _||_}
+use mathlib.Core.List.{List, [], _∷_}
+use lib.Dec.{eqb, ltb, leb}
+use lib.ListN.{length}
+use Rattle.records.specs.Words.{bit}
+use Rattle.records.specs.declared.sums.Sum.{Sum}
+use Rattle.description.specs.Bytes.{letterS, letterA, letterB, letterR, digit, figure}
+use Rattle.description.specs.declared.Symbol.{Symbol}
+use Rattle.description.specs.declared.Symbol.the-variants.{Product, ShareA, ShareB, Mask}
+use Rattle.description.specs.declared.MaskName.{MaskName}
+use Rattle.description.specs.declared.MaskName.the-variants.{Number, NoName}
+use Rattle.description.specs.declared.SymbolAnswer.{SymbolAnswer}
+use Rattle.description.specs.declared.SymbolAnswer.the-variants.{Known, NoSuch, NotDeclared}
+
+abbrev pub sumWith : ℕ → ℕ → ℕ → ℕ → Sum
+sumWith products masks a b = record { products = products; masks = masks; «shares_a» = a; «shares_b» = b }
+
+-- bit 8i + j for a product, bit i or j for a share, bit k for a mask
+abbrev pub symbolSum : Symbol → Sum
+symbolSum (Product i j) = sumWith (2 ^ (8 * i + j)) 0 0 0
+symbolSum (ShareA i) = sumWith 0 0 (2 ^ i) 0
+symbolSum (ShareB j) = sumWith 0 0 0 (2 ^ j)
+symbolSum (Mask k) = sumWith 0 (2 ^ k) 0 0
+
+abbrev pub isIn : Symbol → Sum → Bool
+isIn (Product i j) t = bit (t .products) (8 * i + j)
+isIn (ShareA i) t = bit (t .«shares_a») i
+isIn (ShareB j) t = bit (t .«shares_b») j
+isIn (Mask k) t = bit (t .masks) k
+
+abbrev pub nameLength : ℕ → ℕ
+nameLength k = cond (ltb k 10) 2 3
+
+abbrev pub maskName : ℕ → List ℕ
+maskName k = letterR ∷ cond (ltb k 10) (figure k ∷ []) (figure (k / 10) ∷ figure (k % 10) ∷ [])
+
+abbrev pub spelling : Symbol → List ℕ
+spelling (Product i j) = letterS ∷ figure i ∷ figure j ∷ []
+spelling (ShareA i) = letterA ∷ figure i ∷ []
+spelling (ShareB j) = letterB ∷ figure j ∷ []
+spelling (Mask k) = maskName k
+
+abbrev pub symbolLength : Symbol → ℕ
+symbolLength (Product i j) = 3
+symbolLength (ShareA i) = 2
+symbolLength (ShareB j) = 2
+symbolLength (Mask k) = nameLength k
+
+-- a name takes a second digit where one stands; the first is then no 0, and the number at most 63
+abbrev pub maskNumber : ℕ → List ℕ → MaskName
+maskNumber i [] = Number (i - 48)
+maskNumber i (j ∷ l) =
+    cond (digit j)
+    (cond (eqb i 48 || ltb 63 (10 * (i - 48) + (j - 48))) NoName (Number (10 * (i - 48) + (j - 48))))
+    (Number (i - 48))
+
+abbrev pub maskAt : List ℕ → MaskName
+maskAt [] = NoName
+maskAt (c ∷ []) = NoName
+maskAt (c ∷ i ∷ l) = cond (eqb c letterR && digit i) (maskNumber i l) NoName
+
+-- the digit of a share below n
+abbrev pub shareDigit : ℕ → ℕ → Bool
+shareDigit n c = leb 48 c && ltb c (48 + n)
+
+abbrev pub productRead : ℕ → List ℕ → SymbolAnswer
+productRead n [] = NoSuch
+productRead n (i ∷ []) = NoSuch
+productRead n (i ∷ j ∷ []) = cond (shareDigit n i && shareDigit n j) (Known (Product (i - 48) (j - 48))) NoSuch
+productRead n (i ∷ j ∷ k ∷ l) = NoSuch
+
+abbrev pub shareRead : (ℕ → Symbol) → ℕ → List ℕ → SymbolAnswer
+shareRead share n [] = NoSuch
+shareRead share n (i ∷ []) = cond (shareDigit n i) (Known (share (i - 48))) NoSuch
+shareRead share n (i ∷ j ∷ l) = NoSuch
+
+-- a mask's name and nothing after it
+abbrev pub namedRead : ℕ → ℕ → MaskName → SymbolAnswer
+namedRead declared size NoName = NoSuch
+namedRead declared size (Number k) = cond (eqb size (nameLength k)) (cond (bit declared k) (Known (Mask k)) NotDeclared) NoSuch
+
+abbrev pub symbolRead : ℕ → ℕ → List ℕ → SymbolAnswer
+symbolRead n declared [] = NoSuch
+symbolRead n declared (c ∷ w) =
+    cond (eqb c letterS) (productRead n w)
+    (cond (eqb c letterA) (shareRead ShareA n w)
+    (cond (eqb c letterB) (shareRead ShareB n w)
+    (namedRead declared (length (c ∷ w)) (maskAt (c ∷ w)))))

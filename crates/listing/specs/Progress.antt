@@ -1,0 +1,99 @@
+-- How far the code's reading has come, and what it stands for in the run.
+--     Small                    a symbol whose bit stands within a record
+--     Held                     the table holds the records of the wires listed, newest first, as far as 512 of them
+--     stateOf, Stands          the state of the run that the code's progress stands for
+--     usedProgress, putProgress, tookProgress, lineProgress      the progress after a symbol's use, an item, a symbol taken as an item, a line
+--     Lists, MakesOuter        one wire more is listed; the newest is made the outer one of a line
+--     Follows                  the progress stands for the state that a step of the run makes of the one before
+use Prim.Native.Nat.{ℕ, _+_, _*_, _≤_, _<_}
+use mathlib.Core.Path.{_≡_}
+use mathlib.Core.Bool.{Bool, true, false, cond, not, _&&_, _||_}
+use mathlib.Core.List.{List, [], _∷_, _++_, reverse}
+use lib.ListN.{length, take, drop}
+use Rattle.basics.specs.Folds.{oneIf}
+use Rattle.records.specs.Layout.{recordBytes, plusSum}
+use Rattle.description.specs.Symbols.{symbolSum, isIn}
+use Rattle.description.specs.Listing.{recordsOf, putInto, emptyGroup}
+use Rattle.description.specs.Run.{Around, State, placed, symbolItem, newestOuter}
+use Rattle.description.specs.declared.Symbol.{Symbol}
+use Rattle.description.specs.declared.Symbol.the-variants.{Product, ShareA, ShareB, Mask}
+use Rattle.description.specs.declared.PlacedSymbol.{PlacedSymbol}
+use Rattle.description.specs.declared.Item.{Item}
+use Rattle.description.specs.declared.Listed.{Listed}
+use Rattle.listing.specs.declared.Progress.{Progress}
+
+abbrev pub Small : Symbol → Type 0
+Small (Product i j) = (i < 8) × (j < 8)
+Small (ShareA i) = i < 8
+Small (ShareB j) = j < 8
+Small (Mask k) = k < 64
+
+-- the most wires of a table
+abbrev pub maxWires : ℕ
+maxWires = 512
+
+pub record Held (table : List ℕ) (n : ℕ) (ws : List Listed) : Type 0 where
+  pub count : n ≡ length ws
+  pub records : n ≤ maxWires → take (recordBytes * n) table ≡ recordsOf (reverse ws)
+
+abbrev pub stateOf : Progress → List Around → List Listed → State
+stateOf p around ws = record {
+  group = p .group;
+  around = around;
+  wires = ws;
+  seen = p .seen;
+  lines = p .lines;
+  added = p .added;
+  last = p .last;
+}
+
+pub record Stands (table : List ℕ) (p : Progress) (s : State) : Type 0 where
+  pub state : s ≡ stateOf p (s .around) (s .wires)
+  pub held : Held table (p .wires) (s .wires)
+
+abbrev pub usedProgress : PlacedSymbol → Progress → Progress
+usedProgress q p = record {
+  at = p .at;
+  wires = p .wires + oneIf (not (isIn (q .symbol) (p .seen)));
+  seen = cond (isIn (q .symbol) (p .seen)) (p .seen) (plusSum (p .seen) (symbolSum (q .symbol)));
+  lines = p .lines;
+  added = p .added;
+  last = q;
+  group = p .group;
+}
+
+abbrev pub putProgress : Item → Progress → Progress
+putProgress item p = record {
+  at = item .end;
+  wires = p .wires + oneIf (p .group .filled);
+  seen = p .seen;
+  lines = p .lines;
+  added = p .added || p .group .filled;
+  last = p .last;
+  group = putInto (p .group) item;
+}
+
+abbrev pub tookProgress : Symbol → Progress → Progress
+tookProgress symbol p = putProgress (symbolItem (placed (p .at) symbol)) (usedProgress (placed (p .at) symbol) p)
+
+abbrev pub lineProgress : Progress → Progress
+lineProgress p = record {
+  at = p .at;
+  wires = p .wires + oneIf (not (p .added));
+  seen = p .seen;
+  lines = p .lines + 1;
+  added = false;
+  last = p .last;
+  group = emptyGroup;
+}
+
+unfoldable pub Follows : List ℕ → Progress → List ℕ → Progress → (State → State) → Type 0
+Follows table p table′ q f = (s : State) → Stands table p s → Stands table′ q (f s)
+
+-- one wire more is listed
+unfoldable pub Lists : List ℕ → ℕ → List ℕ → Listed → Type 0
+Lists table n table′ w = (ws : List Listed) → Held table n ws → Held table′ (n + 1) (w ∷ ws)
+
+-- the newest wire is made the outer one of a line
+unfoldable pub MakesOuter : List ℕ → ℕ → List ℕ → ℕ → Type 0
+MakesOuter table n table′ line = (ws : List Listed) → Held table n ws → Held table′ n (newestOuter line ws)

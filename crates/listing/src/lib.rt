@@ -1,0 +1,260 @@
+// The wires as they are listed into a table of 12,288 bytes, and how far the reading has come. Wires are counted on past the 512th, and
+// written no more.
+ghost use mathlib.Core.Path.{_≡_};
+ghost use Prim.Native.Nat.{_≤_, _<_, _+_, _*_};
+ghost use lib.ListN.{length};
+ghost use lib.Seq.{sets};
+ghost use Rattle.basics.specs.Folds.{oneIf};
+ghost use Rattle.description.specs.Listing.{bytesOf, encode, sumBytes, placeBytes, symbolWire, emptyGroup};
+ghost use Rattle.description.specs.Run.{placed, used, put, took, lineDone};
+ghost use Rattle.listing.specs.Progress.{Small, usedProgress, putProgress, tookProgress, lineProgress, Lists, MakesOuter, Follows};
+use description::Group;
+use description::Item;
+use description::Listed;
+use description::PlacedSymbol;
+use description::Symbol;
+use records::layout::LENGTH_AT;
+use records::layout::LINE_AT;
+use records::layout::MASKS_AT;
+use records::layout::OFFSET_AT;
+use records::layout::OUTER_AT;
+use records::layout::RECORD_BYTES;
+use records::layout::SHARES_A_AT;
+use records::layout::SHARES_B_AT;
+use records::layout::wide;
+use records::sums::Sum;
+use records::sums::added;
+use records::sums::nothing;
+use symbols::is_in;
+use symbols::symbol_length;
+use symbols::symbol_sum;
+
+pub mod symbols;
+
+pub const MAX_WIRES: usize = 512;
+
+// How far the reading has come: the place in the text, the wires listed, the symbols used, the output lines done, whether this line has an
+// addition, the last symbol, and the innermost open group.
+pub struct Progress {
+    pub at: usize,
+    pub wires: usize,
+    pub seen: Sum,
+    pub lines: usize,
+    pub added: bool,
+    pub last: PlacedSymbol,
+    pub group: Group,
+}
+
+// Writes a number as so many bytes, the lowest first.
+fn write_number(table: &mut [u8], at: usize, size: usize, number: u64)
+    requires { ⌜ at + size ≤ length (now table) ⌝ }
+    ensures { λ _. ⌜ now (table .exit) ≡ sets (now (table .entry)) at (bytesOf size number) ⌝ }
+{
+    let mut rest = number;
+    for i in 0..size {
+        table[at + i] = (rest % 256) as u8;
+        rest = rest / 256;
+    }
+}
+
+// Writes a sum: products, masks, shares of a, shares of b.
+fn write_sum(table: &mut [u8], at: usize, sum: Sum)
+    requires { ⌜ (at + 24 ≤ length (now table)) × (length (now table) ≡ 12288) ⌝ }
+    ensures { λ _. ⌜ now (table .exit) ≡ sets (now (table .entry)) at (sumBytes sum) ⌝ }
+{
+    write_number(table, at, 8, sum.products);
+    write_number(table, at + MASKS_AT, 8, sum.masks);
+    write_number(table, at + SHARES_A_AT, 1, wide(sum.shares_a));
+    write_number(table, at + SHARES_B_AT, 1, wide(sum.shares_b));
+}
+
+// Writes what a record says of the text: 0 inner or 1 outer, output line, offset, length.
+fn write_place(table: &mut [u8], at: usize, wire: Listed)
+    requires { ⌜ (at + 24 ≤ length (now table)) × (length (now table) ≡ 12288) ⌝ }
+    ensures { λ _. ⌜ now (table .exit) ≡ sets (now (table .entry)) (at + 18) (placeBytes wire) ⌝ }
+{
+    write_number(table, at + OUTER_AT, 1, one_if(wire.outer));
+    write_number(table, at + LINE_AT, 1, wire.line as u64);
+    write_number(table, at + OFFSET_AT, 2, wire.offset as u64);
+    write_number(table, at + LENGTH_AT, 2, wire.length as u64);
+}
+
+// 1 for an outer wire, 0 for an inner one.
+fn one_if(outer: bool) -> u64
+    ensures { λ r. ⌜ r ≡ oneIf outer ⌝ }
+{
+    if outer {
+        return 1;
+    }
+    0
+}
+
+// Writes the record of a wire.
+fn write_record(table: &mut [u8], number: usize, wire: Listed)
+    requires { ⌜ (number < 512) × (length (now table) ≡ 12288) ⌝ }
+    ensures { λ _. ⌜ now (table .exit) ≡ sets (now (table .entry)) (24 * number) (encode wire) ⌝ }
+{
+    let at = RECORD_BYTES * number;
+    write_sum(table, at, wire.sum);
+    write_place(table, at, wire);
+}
+
+// Lists one wire more.
+fn list_wire(table: &mut [u8], wires: usize, wire: Listed)
+    requires { ⌜ length (now table) ≡ 12288 ⌝ }
+    ensures { λ _. ⌜ Lists (now (table .entry)) wires (now (table .exit)) wire ⌝ }
+{
+    if wires < MAX_WIRES {
+        write_record(table, wires, wire);
+    }
+}
+
+// Makes the newest wire the outer one of a line.
+fn make_outer(table: &mut [u8], wires: usize, line: usize)
+    requires { ⌜ length (now table) ≡ 12288 ⌝ }
+    ensures { λ _. ⌜ MakesOuter (now (table .entry)) wires (now (table .exit)) line ⌝ }
+{
+    if wires == 0 {
+        return;
+    }
+    if wires <= MAX_WIRES {
+        let at = RECORD_BYTES * (wires - 1);
+        write_number(table, at + OUTER_AT, 1, 1);
+        write_number(table, at + LINE_AT, 1, line as u64);
+    }
+}
+
+// The inner wire of a symbol.
+fn symbol_wire(known: PlacedSymbol) -> Listed
+    requires { ⌜ Small (known .symbol) ⌝ }
+    ensures { λ r. ⌜ r ≡ symbolWire known ⌝ }
+{
+    let symbol = known.symbol;
+    Listed {
+        sum: symbol_sum(symbol),
+        outer: false,
+        line: 0,
+        offset: known.place,
+        length: symbol_length(symbol),
+    }
+}
+
+// A symbol is used: its first use lists a wire.
+fn use_symbol(table: &mut [u8], progress: Progress, known: PlacedSymbol) -> Progress
+    requires { ⌜ (length (now table) ≡ 12288) × (progress .wires < 65536) × Small (known .symbol) ⌝ }
+    ensures { λ r. ⌜ r ≡ usedProgress known progress ⌝ }
+    ensures { λ r. ⌜ Follows (now (table .entry)) progress (now (table .exit)) r (used known) ⌝ }
+{
+    let symbol = known.symbol;
+    let seen = progress.seen;
+    let mut next = progress;
+    next.last = known;
+    if is_in(symbol, seen) {
+        return next;
+    }
+    list_wire(table, progress.wires, symbol_wire(known));
+    next.wires = progress.wires + 1;
+    let more = added(seen, symbol_sum(symbol));
+    next.seen = more;
+    next
+}
+
+// An item is put into the innermost group: the first begins it, any other is added, and the addition lists a wire.
+pub fn put_item(table: &mut [u8], progress: Progress, item: Item) -> Progress
+    requires { ⌜ (length (now table) ≡ 12288) × (progress .wires < 65536) ⌝ }
+    requires { ⌜ progress .group .first ≤ item .end ⌝ }
+    ensures { λ r. ⌜ r ≡ putProgress item progress ⌝ }
+    ensures { λ r. ⌜ Follows (now (table .entry)) progress (now (table .exit)) r (put item) ⌝ }
+{
+    let group = progress.group;
+    let sum = item.sum;
+    let mut next = progress;
+    next.at = item.end;
+    if !group.filled {
+        let begun = Group {
+            sum: sum,
+            filled: true,
+            first: item.from,
+        };
+        next.group = begun;
+        return next;
+    }
+    let total = added(group.sum, sum);
+    list_wire(
+        table,
+        progress.wires,
+        Listed {
+            sum: total,
+            outer: false,
+            line: 0,
+            offset: group.first,
+            length: item.end - group.first,
+        },
+    );
+    next.wires = progress.wires + 1;
+    next.added = true;
+    let grown = Group {
+        sum: total,
+        filled: true,
+        first: group.first,
+    };
+    next.group = grown;
+    next
+}
+
+// The symbol at the place reached is taken as an item: its wire comes before the addition that takes it.
+pub fn take_symbol(table: &mut [u8], progress: Progress, symbol: Symbol) -> Progress
+    requires { ⌜ (length (now table) ≡ 12288) × (progress .wires < 65535) × Small symbol ⌝ }
+    requires { ⌜ (progress .group .first ≤ progress .at) × (progress .at ≤ 4096) ⌝ }
+    ensures { λ r. ⌜ r ≡ tookProgress symbol progress ⌝ }
+    ensures { λ r. ⌜ Follows (now (table .entry)) progress (now (table .exit)) r (took (placed (progress .at) symbol)) ⌝ }
+{
+    let at = progress.at;
+    let known = PlacedSymbol {
+        place: at,
+        symbol: symbol,
+    };
+    let next = use_symbol(table, progress, known);
+    let item = Item {
+        sum: symbol_sum(symbol),
+        from: at,
+        end: at + symbol_length(symbol),
+    };
+    put_item(table, next, item)
+}
+
+// An output line is done: its last addition is an outer wire, or a single symbol gets an outer wire of its own.
+pub fn end_line(table: &mut [u8], progress: Progress) -> Progress
+    requires { ⌜ (length (now table) ≡ 12288) × (progress .wires < 65536) × (progress .lines < 8) × Small (progress .last .symbol) ⌝ }
+    ensures { λ r. ⌜ r ≡ lineProgress progress ⌝ }
+    ensures { λ r. ⌜ Follows (now (table .entry)) progress (now (table .exit)) r lineDone ⌝ }
+{
+    let line = progress.lines;
+    let mut next = progress;
+    next.lines = line + 1;
+    next.added = false;
+    let empty = empty_group();
+    next.group = empty;
+    if progress.added {
+        make_outer(table, progress.wires, line);
+        return next;
+    }
+    let last = progress.last;
+    let mut wire = symbol_wire(last);
+    wire.outer = true;
+    wire.line = line;
+    list_wire(table, progress.wires, wire);
+    next.wires = progress.wires + 1;
+    next
+}
+
+// A group before its first item.
+pub fn empty_group() -> Group
+    ensures { λ r. ⌜ r ≡ emptyGroup ⌝ }
+{
+    Group {
+        sum: nothing(),
+        filled: false,
+        first: 0,
+    }
+}
