@@ -2,6 +2,7 @@
 --     SpelledBy       a description that a text spells, within the limits, with this order, mask count and wires
 --     spelled-read    what spells a description within the limits is read, into its order, mask count and wires
 --     read-spelled    what is read spells such a description
+--     spelled-limits  and the one description that it spells is within the limits
 use Prim.Native.Nat.{ℕ, _+_, _≤_}
 use native.Mathlib.Omega.{arith}
 use mathlib.Core.Path.{_≡_, refl, sym, _∙_, ap, ap₂, subst}
@@ -21,6 +22,7 @@ use Rattle.description.specs.declared.Refusal.the-variants.{TextTooLong}
 use Rattle.description.proofs.HeaderLines.{HeaderRead, header-read, header-spelled}
 use Rattle.description.proofs.Outputs.{lines-run}
 use Rattle.description.proofs.Found.{run-lines}
+use Rattle.description.proofs.Unique.{spelled-once}
 
 pub record SpelledBy (text : List ℕ) (order masks : ℕ) (ws : List Listed) : Type 0 where
   pub description : Description
@@ -87,3 +89,9 @@ read-spelled text order masks ws e = by-length (ltb maxText (length text)) refl 
         → cond long (turnedDown TextTooLong maxText) (afterOrder text (orderLine text)) ≡ read order masks ws → SpelledBy text order masks ws
     by-length true h f = let z : _≡_ {A = ℕ} 0 1 = cc in absurd (omega (arith, z))
     by-length false h f = by-order (ltb-false maxText (length text) h) (orderLine text) refl f
+
+pub spelled-limits : (text : List ℕ) (order masks : ℕ) (ws : List Listed) → reading text ≡ read order masks ws
+    → (d : Description) → Spells text d → Limits text d
+spelled-limits text order masks ws e d s =
+    let r = read-spelled text order masks ws e in
+    subst (Limits text) (spelled-once text (r .description) d (r .spells) s) (r .limits)

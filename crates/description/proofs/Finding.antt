@@ -18,7 +18,7 @@ use lib.ListN.{length, drop}
 use Rattle.basics.specs.Folds.{every, oneIf}
 use Rattle.basics.proofs.Tests.{and-both}
 use Rattle.description.specs.Bytes.{space, lineEnd, opening, closing, word}
-use Rattle.description.specs.Symbols.{spelling, symbolLength}
+use Rattle.description.specs.Symbols.{spelling, formed, symbolLength}
 use Rattle.description.specs.Run.{Around, maxDepth, placed}
 use Rattle.description.specs.Grammar.{Items, none, symbol, group, Byte, Bytes, empty, counted, symbols, depth, known}
 use Rattle.description.specs.Grammar.{Spelled, end, spaced, a-symbol, a-group, Lines, last, line}
@@ -40,11 +40,11 @@ module _ (text : List ℕ) (shares : ℕ) (names : List ℕ) where
   abbrev pub read-space : (j p q : ℕ) → Byte text p space → Read j (p + 1) q → Read j p q
   read-space j p q b r = record { items = r .items; spelled = spaced b (r .spelled); allowed = r .allowed; shallow = r .shallow }
 
-  abbrev pub read-symbol : (j p q : ℕ) (u : Symbol) → Bytes text p (spelling u) → word (drop (p + symbolLength u) text) ≡ []
+  abbrev pub read-symbol : (j p q : ℕ) (u : Symbol) → formed u ≡ true → Bytes text p (spelling u) → word (drop (p + symbolLength u) text) ≡ []
       → known shares names u ≡ true → Read j (p + symbolLength u) q → Read j p q
-  read-symbol j p q u b w k r = record {
+  read-symbol j p q u f b w k r = record {
     items = symbol (placed p u) (r .items);
-    spelled = a-symbol u b w (r .spelled);
+    spelled = a-symbol u f b w (r .spelled);
     allowed = and-both (known shares names u) (every (known shares names) (symbols (r .items))) k (r .allowed);
     shallow = r .shallow;
   }

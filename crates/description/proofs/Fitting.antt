@@ -55,7 +55,7 @@ module _ {text : List ℕ} where
   spelled-forward : {p q : ℕ} {is : Items} → Spelled text p is q → p ≤ q
   spelled-forward end = omega arith
   spelled-forward (spaced b s) = let h = spelled-forward s in omega (arith, h)
-  spelled-forward (a-symbol s b w rest) = let h = spelled-forward rest in omega (arith, h)
+  spelled-forward (a-symbol s f b w rest) = let h = spelled-forward rest in omega (arith, h)
   spelled-forward (a-group o inside f c rest) =
       let h = spelled-forward inside in
       let k = spelled-forward rest in
@@ -88,7 +88,7 @@ module _ (text : List ℕ) (short : length text ≤ maxText) (n : ℕ) (few : n 
       → All UseFits (uses is)
   uses-fit end h e = tt
   uses-fit (spaced b s) h e = uses-fit s h e
-  uses-fit (a-symbol {is = is} s b w rest) h e =
+  uses-fit (a-symbol {is = is} s i b w rest) h e =
       let f = spelled-forward rest in (
         (and-left (known n names s) (every (known n names) (symbols is)) e, omega (arith, f, h)),
         uses-fit rest h (and-right (known n names s) (every (known n names) (symbols is)) e),
@@ -108,7 +108,7 @@ module _ (text : List ℕ) (short : length text ≤ maxText) (n : ℕ) (few : n 
   events-fit (spaced {p = p} {is = is} o s) h e =
       let k = events-fit s h e in
       record { alone = k .alone; after = λ l first b d. k .after l first (omega (arith, b)) d }
-  events-fit (a-symbol {p = p} {is = is} s o w rest) h e =
+  events-fit (a-symbol {p = p} {is = is} s i o w rest) h e =
       let f = spelled-forward rest in
       let one = and-left (known n names s) (every (known n names) (symbols is)) e in
       let single = and-both (known n names s) true one refl in

@@ -1,6 +1,7 @@
 -- The run follows what a text spells.
 --     symbol-long      a symbol has two bytes or more
 --     symbol-inside    a symbol that is spelled ends inside the text
+--     symbol-word      and is the longest run of its bytes there
 --     spelled-run      from where items begin, the run comes to where they end, in the state after them
 use Prim.Native.Nat.{ℕ, _+_, _≤_, _<_}
 use native.Mathlib.Omega.{arith}
@@ -13,7 +14,7 @@ use lib.ListN.{length, drop, getD}
 use Rattle.basics.specs.Folds.{every}
 use Rattle.basics.proofs.Tests.{and-left, and-right}
 use Rattle.description.specs.Bytes.{space, opening, closing, parts, word}
-use Rattle.description.specs.Symbols.{spelling, symbolLength, symbolRead}
+use Rattle.description.specs.Symbols.{spelling, formed, symbolLength, symbolRead}
 use Rattle.description.specs.Run.{State, runAt, maxDepth, placed, took, opened, closed}
 use Rattle.description.specs.Grammar.{Items, Bytes, empty, Spelled, end, spaced, a-symbol, a-group, depth, symbols, known}
 use Rattle.description.specs.declared.Symbol.{Symbol}
@@ -44,20 +45,25 @@ module _ (text : List ℕ) where
       let h = bytes-inside text p (spelling u) e (omega (arith, size, long)) in
       omega (arith, size, h)
 
+  pub symbol-word : (p : ℕ) (u : Symbol) → formed u ≡ true → Bytes text p (spelling u) → word (drop (p + symbolLength u) text) ≡ []
+      → word (drop p text) ≡ spelling u
+  symbol-word p u f b w =
+      ap word (bytes-rest text p (spelling u) b ∙ ap (λ (k : ℕ). spelling u ++ drop (p + k) text) (spelling-length u))
+      ∙ spelling-word u f (drop (p + symbolLength u) text) w
+
   module _ (shares declared : ℕ) (names : List ℕ) (few : shares ≤ 8) (d : Declares declared names) where
     not-all : (s : State) → s .lines < shares → eqb (s .lines) shares ≡ false
     not-all s h = ne-eqb (s .lines) shares (λ e. omega (arith, e, h))
 
-    spelled-symbol : (p : ℕ) (s : State) (u : Symbol) → s .lines < shares → Bytes text p (spelling u) → word (drop (p + symbolLength u) text) ≡ []
-        → known shares names u ≡ true → runAt shares declared text p s ≡ runAt shares declared text (p + symbolLength u) (took (placed p u) s)
-    spelled-symbol p s u early b w k =
+    spelled-symbol : (p : ℕ) (s : State) (u : Symbol) → s .lines < shares → formed u ≡ true → Bytes text p (spelling u)
+        → word (drop (p + symbolLength u) text) ≡ [] → known shares names u ≡ true
+        → runAt shares declared text p s ≡ runAt shares declared text (p + symbolLength u) (took (placed p u) s)
+    spelled-symbol p s u early f b w k =
         let size = spelling-length u in
         let long = symbol-long u in
         let fits = symbol-inside p u b in
         let inside : p < length text = omega (arith, long, fits) in
-        let is-word : word (drop p text) ≡ spelling u =
-        ap word (bytes-rest text p (spelling u) b ∙ ap (λ (k : ℕ). spelling u ++ drop (p + k) text) size)
-        ∙ spelling-word shares names u few (d .low) k (drop (p + symbolLength u) text) w in
+        let is-word = symbol-word p u f b w in
         let word-size : length (word (drop p text)) ≡ symbolLength u = ap length is-word ∙ size in
         let first-size : length (word (getD text p 0 ∷ drop (p + 1) text)) ≡ symbolLength u =
         ap (λ l. length (word l)) (sym (drop-byte text p inside)) ∙ word-size in
@@ -72,8 +78,8 @@ module _ (text : List ℕ) where
     spelled-run end s early k h = refl
     spelled-run (spaced {p = p} b r) s early k h =
         at-space shares declared text p s (byte-inside text p space b) (byte-at text p space b) ∙ spelled-run r s early k h
-    spelled-run (a-symbol {p = p} {is = is} u b w r) s early k h =
-        spelled-symbol p s u (early refl) b w (and-left (known shares names u) (every (known shares names) (symbols is)) k)
+    spelled-run (a-symbol {p = p} {is = is} u f b w r) s early k h =
+        spelled-symbol p s u (early refl) f b w (and-left (known shares names u) (every (known shares names) (symbols is)) k)
         ∙ spelled-run r (took (placed p u) s) (λ e. early refl) (and-right (known shares names u) (every (known shares names) (symbols is)) k) h
     spelled-run (a-group {p = p} {c = c} {inside = inside} {is = is} b r f e k) s early known h =
         let parts = known-group shares names p inside c is known in

@@ -15,7 +15,7 @@ use Rattle.description.specs.Symbols.{spelling, symbolLength, symbolRead
 use Rattle.description.specs.Run.{State, Around, done, runAt, maxDepth, start, placed, took, opened, closed, symbolItem, groupItem}
 use Rattle.description.specs.Grammar.{group, Bytes, empty}
 use Rattle.description.specs.declared.SymbolAnswer.{SymbolAnswer}
-use Rattle.description.proofs.Spelling.{Declares, read-known, spelling-length}
+use Rattle.description.proofs.Spelling.{Declares, read-known, known-formed, spelling-length}
 use Rattle.description.proofs.Places.{at-byte, rest-bytes, word-rest, word-after}
 use Rattle.description.proofs.Steps.{Kind, is-space, is-line-end, is-other, kind-of}
 use Rattle.description.proofs.Steps.{Other, is-opening, is-bar, is-closing, is-joined, other-of}
@@ -91,6 +91,7 @@ module _ (text : List ℕ) (shares declared : ℕ) (names : List ℕ) (few : sha
               let both = read-known shares declared names (word (drop p text)) u few d e in
               let size : length (word (drop p text)) ≡ symbolLength u = ap length (both .0) ∙ spelling-length u in
               let long = symbol-long u in
+              let can = known-formed shares names u few (d .low) (both .1) in
               let spelled : Bytes text p (spelling u) =
               rest-bytes text p (spelling u) (drop (length (word (drop p text))) (drop p text))
               (word-rest (drop p text) ∙ ap (λ w. w ++ drop (length (word (drop p text))) (drop p text)) (both .0)) in
@@ -98,7 +99,7 @@ module _ (text : List ℕ) (shares declared : ℕ) (names : List ℕ) (few : sha
               ap (λ (k : ℕ). word (drop (p + k) text)) (sym size)
               ∙ ap word (sym (drop-drop (length (word (drop p text))) p text)) ∙ word-after (drop p text) in
               rest-before text shares names (s .around) (s .group .filled) true (s .lines) p (p + symbolLength u)
-              (λ q r. read-symbol text shares names (length (s .around)) p q u spelled parted (both .1) r) (λ q r. or-true (s .group .filled))
+              (λ q r. read-symbol text shares names (length (s .around)) p q u can spelled parted (both .1) r) (λ q r. or-true (s .group .filled))
               (subst (λ (b : Bool). Rest text shares names (s .around) b (s .lines) (p + symbolLength u))
               (put-filled (s .group) (symbolItem (placed p u)))
               (later (p + symbolLength u) (omega (arith, long)) (symbol-inside text p u spelled) (took (placed p u) s)

@@ -22,6 +22,7 @@
 --     Finding       the rest of a text, where the run over it is done
 --     Ends          the text's end and a line's end, where the run is done
 --     Found         the output lines that a text spells, where the run is done
+--     Unique        a text spells one description
 --     Exactly       a text is read exactly when it spells a description within the limits
 --     Samples       examples, proved by running the definitions
 pub mod Running
@@ -47,5 +48,6 @@ pub mod Outputs
 pub mod Finding
 pub mod Ends
 pub mod Found
+pub mod Unique
 pub mod Exactly
 pub mod Samples

@@ -35,7 +35,7 @@ use Rattle.description.proofs.Following.{spelled-run}
 spelled-whole : {text : List ℕ} {p q : ℕ} {is : Items} → Spelled text p is q → whole is ≡ true
 spelled-whole end = refl
 spelled-whole (spaced b r) = spelled-whole r
-spelled-whole (a-symbol u b w r) = spelled-whole r
+spelled-whole (a-symbol u f b w r) = spelled-whole r
 spelled-whole (a-group {inside = inside} {is = is} b r f e k) =
     and-both (not (empty inside)) (whole inside && whole is) (ap not f) (and-both (whole inside) (whole is) (spelled-whole r) (spelled-whole k))
 

@@ -7,17 +7,18 @@
 --     word-rest, word-after      the longest run begins the bytes, and none follows it
 --     word-inside                it is no longer than the bytes
 --     word-joined                a byte that parts begins no run
+--     joined-byte                a byte that does not part is none of those that do
 use Prim.Native.Nat.{ℕ, suc, _+_, _-_, _≤_, _<_, zero-le, suc-le-suc, min}
 use native.Mathlib.Omega.{arith}
 use mathlib.Core.Path.{_≡_, refl, sym, _∙_, ap, ap₂}
-use mathlib.Core.Bool.{Bool, true, false, cond, false≢true}
+use mathlib.Core.Bool.{Bool, true, false, cond, _||_, false≢true}
 use mathlib.Core.List.{List, [], _∷_, _++_}
 use borrow.Author.Tests.{eqb-true}
 use lib.Dec.{eqb}
 use lib.ListN.{length, take, drop, getD, length-take, length-drop, take-append-drop}
 use lib.Seq.{drop-drop, take-append-seam}
-use Rattle.basics.proofs.Tests.{and-left, and-right}
-use Rattle.description.specs.Bytes.{parts, word, same}
+use Rattle.basics.proofs.Tests.{and-left, and-right, or-none}
+use Rattle.description.specs.Bytes.{space, lineEnd, opening, closing, bar, parts, word, same}
 use Rattle.description.specs.Grammar.{Byte, Bytes}
 use Rattle.description.proofs.Running.{drop-byte}
 
@@ -88,3 +89,12 @@ word-joined c l h = go (parts c) h
     go : (b : Bool) → 0 < length (cond b [] (c ∷ word l)) → b ≡ false
     go true h = absurd (omega (arith, h))
     go false h = refl
+
+pub joined-byte : (c : ℕ) → parts c ≡ false
+    → (eqb c space ≡ false) × (eqb c opening ≡ false) × (eqb c closing ≡ false) × (eqb c bar ≡ false) × (eqb c lineEnd ≡ false)
+joined-byte c e =
+    let four = or-none (eqb c space || eqb c opening || eqb c closing || eqb c bar) (eqb c lineEnd) e in
+    let three = or-none (eqb c space || eqb c opening || eqb c closing) (eqb c bar) (four .0) in
+    let two = or-none (eqb c space || eqb c opening) (eqb c closing) (three .0) in
+    let one = or-none (eqb c space) (eqb c opening) (two .0) in
+    (one .0, one .1, two .1, three .1, four .1)

@@ -3,7 +3,8 @@
 --     known-read           a symbol of the order, or of a declared mask, is read from its spelling
 --     read-known           what is read as a symbol is its spelling, and the symbol is of the order, or a declared mask
 --     spelling-length      how many bytes a spelling has
---     spelling-word        the spelling of a known symbol is the longest run, where a byte that parts or the end follows
+--     known-formed         a symbol of the order, or of a declared mask, can be spelled
+--     spelling-word        the spelling of a symbol is the longest run, where a byte that parts or the end follows
 --     seen-more            a sum that names one symbol more
 use Prim.Native.Nat.{ℕ, _+_, _*_, _-_, _/_, _%_, _^_, _≤_, _<_}
 use native.Mathlib.Nat.{zero-lt-suc, mod-lt, div-add-mod'}
@@ -23,7 +24,7 @@ use Rattle.records.specs.Layout.{plusSum}
 use Rattle.records.specs.declared.sums.Sum.{Sum}
 use Rattle.records.proofs.Words.{bit-zero, bit-xor}
 use Rattle.description.specs.Bytes.{letterS, letterA, letterB, letterR, figure, word, same}
-use Rattle.description.specs.Symbols.{symbolSum, isIn, nameLength, maskName, spelling, symbolLength}
+use Rattle.description.specs.Symbols.{symbolSum, isIn, nameLength, maskName, spelling, formed, symbolLength}
 use Rattle.description.specs.Symbols.{maskAt, shareDigit, productRead, shareRead, namedRead, symbolRead}
 use Rattle.description.specs.Grammar.{member, known, sameSymbol}
 use Rattle.description.specs.declared.Symbol.{Symbol}
@@ -166,24 +167,29 @@ spelling-length (Mask k) = name-length k
 word-figure : (i : ℕ) (l w : List ℕ) → i < 10 → word l ≡ w → word (figure i ∷ l) ≡ figure i ∷ w
 word-figure i l w h e = rw (figure-parts i h) (ap {B = List ℕ} (λ w. figure i ∷ w) e)
 
-pub spelling-word : (n : ℕ) (names : List ℕ) (s : Symbol) → n ≤ 8 → every (λ k. leb k 63) names ≡ true → known n names s ≡ true
-    → (rest : List ℕ) → word rest ≡ [] → word (spelling s ++ rest) ≡ spelling s
-spelling-word n names (Product i j) h low k rest e =
-    let first = ltb-true i n (and-left (ltb i n) (ltb j n) k) in
-    let second = ltb-true j n (and-right (ltb i n) (ltb j n) k) in
-    ap {B = List ℕ} (λ w. letterS ∷ w)
-    (word-figure i (figure j ∷ rest) (figure j ∷ []) (omega (arith, first, h)) (word-figure j rest [] (omega (arith, second, h)) e))
-spelling-word n names (ShareA i) h low k rest e =
-    ap {B = List ℕ} (λ w. letterA ∷ w) (word-figure i rest [] (omega (arith, ltb-true i n k, h)) e)
-spelling-word n names (ShareB j) h low k rest e =
-    ap {B = List ℕ} (λ w. letterB ∷ w) (word-figure j rest [] (omega (arith, ltb-true j n k, h)) e)
-spelling-word n names (Mask m) h low k rest e = ap {B = List ℕ} (λ w. letterR ∷ w) (go (ltb m 10) refl)
+pub known-formed : (n : ℕ) (names : List ℕ) (s : Symbol) → n ≤ 8 → every (λ k. leb k 63) names ≡ true → known n names s ≡ true → formed s ≡ true
+known-formed n names (Product i j) h low k =
+    let first = lt-ltb i 10 (omega (arith, ltb-true i n (and-left (ltb i n) (ltb j n) k), h)) in
+    let second = lt-ltb j 10 (omega (arith, ltb-true j n (and-right (ltb i n) (ltb j n) k), h)) in
+    and-both (ltb i 10) (ltb j 10) first second
+known-formed n names (ShareA i) h low k = lt-ltb i 10 (omega (arith, ltb-true i n k, h))
+known-formed n names (ShareB j) h low k = lt-ltb j 10 (omega (arith, ltb-true j n k, h))
+known-formed n names (Mask m) h low k = le-leb m 63 (member-low m names low k)
+
+pub spelling-word : (s : Symbol) → formed s ≡ true → (rest : List ℕ) → word rest ≡ [] → word (spelling s ++ rest) ≡ spelling s
+spelling-word (Product i j) f rest e =
+    let first = ltb-true i 10 (and-left (ltb i 10) (ltb j 10) f) in
+    let second = ltb-true j 10 (and-right (ltb i 10) (ltb j 10) f) in
+    ap {B = List ℕ} (λ w. letterS ∷ w) (word-figure i (figure j ∷ rest) (figure j ∷ []) first (word-figure j rest [] second e))
+spelling-word (ShareA i) f rest e = ap {B = List ℕ} (λ w. letterA ∷ w) (word-figure i rest [] (ltb-true i 10 f) e)
+spelling-word (ShareB j) f rest e = ap {B = List ℕ} (λ w. letterB ∷ w) (word-figure j rest [] (ltb-true j 10 f) e)
+spelling-word (Mask m) f rest e = ap {B = List ℕ} (λ w. letterR ∷ w) (go (ltb m 10) refl)
   where
     go : (b : Bool) → ltb m 10 ≡ b → word (cond b (figure m ∷ []) (figure (m / 10) ∷ figure (m % 10) ∷ []) ++ rest)
         ≡ cond b (figure m ∷ []) (figure (m / 10) ∷ figure (m % 10) ∷ [])
     go true q = word-figure m rest [] (ltb-true m 10 q) e
     go false q =
-        let tens : m / 10 < 10 = omega (arith, div-add-mod' m 10, member-low m names low k) in
+        let tens : m / 10 < 10 = omega (arith, div-add-mod' m 10, leb-true m 63 f) in
         word-figure (m / 10) (figure (m % 10) ∷ rest) (figure (m % 10) ∷ []) tens (word-figure (m % 10) rest [] (mod-lt m (zero-lt-suc 9)) e)
 
 -- ---- the symbols of a sum

@@ -8,16 +8,16 @@
 --     step-symbol                at a byte of a symbol
 use Prim.Native.Nat.{ℕ}
 use mathlib.Core.Path.{_≡_, refl, _∙_, ap}
-use mathlib.Core.Bool.{Bool, true, false, _||_}
+use mathlib.Core.Bool.{Bool, true, false}
 use mathlib.Core.List.{List, _∷_}
 use borrow.Author.Tests.{eqb-true}
 use lib.Dec.{eqb}
 use lib.ListN.{length}
-use Rattle.basics.proofs.Tests.{or-none}
 use Rattle.description.specs.Bytes.{space, lineEnd, opening, closing, bar, parts, word}
 use Rattle.description.specs.Symbols.{symbolRead}
 use Rattle.description.specs.Run.{State, go, stop, step, lineStep, openStep, closeStep, symbolStep}
 use Rattle.description.specs.declared.Refusal.the-variants.{Bar, WrongLineCount}
+use Rattle.description.proofs.Places.{joined-byte}
 
 pub data Kind (c : ℕ) : Type 0 where
   is-space : c ≡ space → Kind c
@@ -69,9 +69,4 @@ module _ (shares declared at : ℕ) (s : State) (c : ℕ) (l : List ℕ) where
 
     pub step-symbol : parts c ≡ false
         → step shares declared at s c l ≡ symbolStep at (length (word (c ∷ l))) (symbolRead shares declared (word (c ∷ l))) s
-    step-symbol e =
-        let four = or-none (eqb c space || eqb c opening || eqb c closing || eqb c bar) (eqb c lineEnd) e in
-        let three = or-none (eqb c space || eqb c opening || eqb c closing) (eqb c bar) (four .0) in
-        let two = or-none (eqb c space || eqb c opening) (eqb c closing) (three .0) in
-        let one = or-none (eqb c space) (eqb c opening) (two .0) in
-        simp (one .0, four .1, h, one .1, three .1, two .1)
+    step-symbol e = let apart = joined-byte c e in simp (apart .0, apart .4, h, apart .1, apart .3, apart .2)

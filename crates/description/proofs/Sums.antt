@@ -1,5 +1,6 @@
 -- Sums of symbols: what they mean, and that they fit into a record, where the symbols are shares of the order and declared masks.
 --     count-low                    the mask count is at most 64
+--     symbolTerms, sum-means       a sum of symbols means the terms that the symbols name, added
 --     symbol-within, sum-within    the sum of a symbol, of symbols, has no bit beyond the shares and masks
 --     symbol-small, sum-small      and fits into a record
 use Prim.Native.Nat.{ℕ, _+_, _*_, _^_, _≤_, _<_}
@@ -57,7 +58,7 @@ count-low (k ∷ names) e =
 -- ---- what sums of symbols mean
 
 -- the terms that name one product, share or mask alone
-abbrev symbolTerms : Symbol → Terms
+abbrev pub symbolTerms : Symbol → Terms
 symbolTerms (Product i j) = justProduct i j
 symbolTerms (ShareA i) = justShare i
 symbolTerms (ShareB j) = swap (justShare j)
@@ -94,7 +95,7 @@ module _ (n : ℕ) (names : List ℕ) (few : n ≤ 8) where
   symbol-means (ShareB j) e = terms-ext (termsOf (symbolSum (ShareB j))) (swap (justShare j)) no-product bit-zero (bit-power j) bit-zero
   symbol-means (Mask k) e = terms-ext (termsOf (symbolSum (Mask k))) (justMask k) no-product bit-zero bit-zero (bit-power k)
 
-  sum-means : (l : List Symbol) → every (known n names) l ≡ true → termsOf (sumOf l) ≡ fold plus none symbolTerms l
+  pub sum-means : (l : List Symbol) → every (known n names) l ≡ true → termsOf (sumOf l) ≡ fold plus none symbolTerms l
   sum-means [] e = words-zero
   sum-means (s ∷ l) e =
       let first : Sum = symbolSum s in

@@ -16,17 +16,17 @@
 --     wiresOf d                the wires of a description
 --     maskCount                the highest number + 1, or 0
 --     Limits text d            the description is within the limits of a text
-use Prim.Native.Nat.{ℕ, zero, suc, _+_, _-_, _≤_, _<_}
+use Prim.Native.Nat.{ℕ, _+_, _-_, _≤_}
 use mathlib.Core.Path.{_≡_}
 use mathlib.Core.Bool.{Bool, true, false, cond, _&&_, not}
 use mathlib.Core.List.{List, [], _∷_, _++_, map}
 use lib.Dec.{eqb, ltb, leb}
-use lib.ListN.{length, take, drop, getD}
+use lib.ListN.{length, take, drop}
 use Rattle.basics.specs.Folds.{fold, some, every}
 use Rattle.records.specs.Layout.{noSum, plusSum}
 use Rattle.records.specs.declared.sums.Sum.{Sum}
 use Rattle.description.specs.Bytes.{space, lineEnd, opening, closing, comma, bracket, orderWord, masksWord, figure, word, ended, same}
-use Rattle.description.specs.Symbols.{symbolSum, symbolLength, maskName, spelling}
+use Rattle.description.specs.Symbols.{symbolSum, symbolLength, maskName, spelling, formed}
 use Rattle.description.specs.Header.{larger}
 use Rattle.description.specs.Listing.{symbolWire, madeOuter, outerWire}
 use Rattle.description.specs.Run.{maxText, maxDepth, placed}
@@ -61,8 +61,8 @@ empty (group o inside c is) = false
 pub data Spelled (text : List ℕ) : ℕ → Items → ℕ → Type 0 where
   end : {p : ℕ} → Spelled text p none p
   spaced : {p q : ℕ} {is : Items} → Byte text p space → Spelled text (p + 1) is q → Spelled text p is q
-  a-symbol : {p q : ℕ} {is : Items} (s : Symbol) → Bytes text p (spelling s) → word (drop (p + symbolLength s) text) ≡ []
-      → Spelled text (p + symbolLength s) is q → Spelled text p (symbol (placed p s) is) q
+  a-symbol : {p q : ℕ} {is : Items} (s : Symbol) → formed s ≡ true → Bytes text p (spelling s)
+      → word (drop (p + symbolLength s) text) ≡ [] → Spelled text (p + symbolLength s) is q → Spelled text p (symbol (placed p s) is) q
   a-group : {p c q : ℕ} {inside is : Items} → Byte text p opening → Spelled text (p + 1) inside c → empty inside ≡ false
       → Byte text c closing → Spelled text (c + 1) is q → Spelled text p (group p inside c is) q
 

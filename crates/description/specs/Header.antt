@@ -2,14 +2,13 @@
 --     orderLine text           what the first line gives: exactly `ORDER = ` and one digit 1 to 7
 --     masksLine at l           what the second line gives, l from its start at place `at` on: exactly `MASKS = [`, then nothing or names parted
 --                              by a comma and a space, none twice, then `]`
---     declares                 one mask more
 --     nameStep, namesFrom      the names from a place on
 use Prim.Native.Nat.{ℕ, zero, suc, _+_, _-_, _^_}
-use mathlib.Core.Bool.{Bool, true, false, cond, _&&_}
+use mathlib.Core.Bool.{Bool, false, cond, _&&_}
 use mathlib.Core.List.{List, [], _∷_}
 use lib.Bits.{bitXor}
 use lib.Dec.{eqb, ltb, leb}
-use lib.ListN.{length, take, drop, getD}
+use lib.ListN.{take, drop}
 use Rattle.records.specs.Words.{bit}
 use Rattle.description.specs.Bytes.{space, comma, bracket, orderWord, masksWord, ended, same}
 use Rattle.description.specs.Symbols.{nameLength, maskAt}

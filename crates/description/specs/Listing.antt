@@ -9,7 +9,7 @@
 --     emptyGroup            a group before its first item
 --     additionWire, putInto     the wire of an addition to a group, and the group then
 use Prim.Native.Nat.{ℕ, zero, suc, _-_, _/_, _%_}
-use mathlib.Core.Bool.{Bool, true, false, cond}
+use mathlib.Core.Bool.{true, false, cond}
 use mathlib.Core.List.{List, [], _∷_, _++_}
 use Rattle.basics.specs.Folds.{oneIf}
 use Rattle.records.specs.Layout.{noSum, plusSum}

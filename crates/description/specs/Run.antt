@@ -14,7 +14,7 @@
 --     Outcome, run        the run over the bytes from a place on
 --     Reading, reading    the reading of a whole text
 use Prim.Native.Nat.{ℕ, zero, suc, _+_, _-_}
-use mathlib.Core.Bool.{Bool, true, false, cond, not, _||_}
+use mathlib.Core.Bool.{Bool, false, cond, _||_}
 use mathlib.Core.List.{List, [], _∷_, reverse}
 use lib.Dec.{eqb, ltb}
 use lib.ListN.{length, drop}
@@ -30,11 +30,11 @@ use Rattle.description.specs.declared.SymbolAnswer.{SymbolAnswer}
 use Rattle.description.specs.declared.Listed.{Listed}
 use Rattle.description.specs.declared.Item.{Item}
 use Rattle.description.specs.declared.Group.{Group}
-use Rattle.description.specs.declared.Masks.{Masks}
 use Rattle.description.specs.declared.OrderLine.{OrderLine}
 use Rattle.description.specs.declared.MasksLine.{MasksLine}
 use Rattle.description.specs.declared.Refusal.{Refusal}
-use Rattle.description.specs.declared.Refusal.the-variants.{TextTooLong, WrongOrderLine, WrongMasksLine, NoSuchSymbol, MaskNotDeclared, WrongParenthesis, Bar, NestedTooDeep, WrongLineCount, TooManyWires}
+use Rattle.description.specs.declared.Refusal.the-variants.{TextTooLong, WrongOrderLine, WrongMasksLine, NoSuchSymbol, MaskNotDeclared}
+use Rattle.description.specs.declared.Refusal.the-variants.{WrongParenthesis, Bar, NestedTooDeep, WrongLineCount, TooManyWires}
 
 abbrev pub refusalNumber : Refusal → ℕ
 refusalNumber TextTooLong = 1

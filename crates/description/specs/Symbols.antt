@@ -4,6 +4,7 @@
 --     isIn s t                 whether a sum names the symbol
 --     nameLength k             how many bytes the name of mask k has
 --     spelling s               the bytes of a symbol
+--     formed s                 whether a symbol can be spelled
 --     maskAt l                 the mask whose name stands at the start of l: r and a number 0 to 63 without leading zeros
 --     symbolRead n d w         what the run of bytes w is, for n shares and the declared masks d
 use Prim.Native.Nat.{ℕ, _+_, _*_, _-_, _/_, _%_, _^_}
@@ -48,6 +49,13 @@ spelling (Product i j) = letterS ∷ figure i ∷ figure j ∷ []
 spelling (ShareA i) = letterA ∷ figure i ∷ []
 spelling (ShareB j) = letterB ∷ figure j ∷ []
 spelling (Mask k) = maskName k
+
+-- digits 0 to 9, a mask's number 0 to 63
+abbrev pub formed : Symbol → Bool
+formed (Product i j) = ltb i 10 && ltb j 10
+formed (ShareA i) = ltb i 10
+formed (ShareB j) = ltb j 10
+formed (Mask k) = leb k 63
 
 abbrev pub symbolLength : Symbol → ℕ
 symbolLength (Product i j) = 3

@@ -1,0 +1,109 @@
+-- The whole text: its header, and what is then read into a table of the code's own.
+--     lines-refused, lines-scratched        the output lines are turned down, are read
+--     second-line, second-wrong, second-declared     where the second line starts; it is wrong; it declares masks
+--     second-inside, masks-inside           what the two header lines give lies within the limits
+--     text-long, first-wrong, first-given   a text too long; a wrong first line; one that gives an order
+use Prim.Native.Nat.{ℕ, _+_, _*_, _-_, _≤_, _<_}
+use native.Mathlib.Omega.{arith}
+use mathlib.Core.Path.{_≡_, refl, sym, _∙_, ap, subst}
+use mathlib.Core.Bool.{Bool, true, false, cond, _&&_}
+use mathlib.Core.List.{List, [], _∷_, reverse}
+use borrow.Author.Tests.{ltb-true, ltb-false, lt-ltb, le-ltb}
+use lib.Dec.{ltb, leb}
+use lib.ListN.{length, drop, drop-of-length-le, length-reverse}
+use lib.Seq.{drop-length}
+use Rattle.basics.proofs.Tests.{and-left, and-right}
+use Rattle.description.specs.Bytes.{orderWord, ended, same}
+use Rattle.description.specs.Header.{orderDigit, orderLine, masksLine}
+use Rattle.description.specs.Run.{Outcome, Reading, refused, turnedDown, start, runAt, listed, secondLine, afterMasks, afterOrder, reading, maxText}
+use Rattle.description.specs.declared.Masks.{Masks}
+use Rattle.description.specs.declared.OrderLine.{OrderLine}
+use Rattle.description.specs.declared.MasksLine.{MasksLine}
+use Rattle.description.specs.declared.Refusal.{Refusal}
+use Rattle.description.specs.declared.Refusal.the-variants.{TextTooLong, WrongOrderLine, WrongMasksLine}
+use Rattle.description.proofs.HeaderLines.{HeaderRead, header-spelled}
+use Rattle.listing.specs.declared.Progress.{Progress}
+use Rattle.reader.specs.Answers.{Scratched, OutcomeRead, LinesListed, SecondReads, ScratchReads}
+use Rattle.reader.specs.Going.{AllRead}
+use Rattle.reader.specs.declared.ReadAnswer.{ReadAnswer}
+
+module _ (text : List ℕ) (order : ℕ) (m : Masks) where
+  pub lines-refused : (scratch : List ℕ) (why : Refusal) (offset : ℕ)
+      → runAt (order + 1) (m .declared) text (m .end) start ≡ refused why offset
+      → LinesListed text order m scratch (ReadAnswer.Refused why offset)
+  lines-refused scratch why offset e = ap (listed order (m .count)) e
+
+  pub lines-scratched : (scratch : List ℕ) (q : Progress) → length text ≤ 4096 → order ≤ 7
+      → AllRead (order + 1) (m .declared) text (m .end) scratch q
+      → LinesListed text order m scratch (ReadAnswer.Read order (order + 1) (m .count) (q .wires))
+  lines-scratched scratch q short low r = record {
+    listed-wires = reverse (r .state .wires);
+    reads = ap (listed order (m .count)) (r .finished);
+    same-shares = refl;
+    few = omega (arith, r .within .few, r .within .inside, r .all-lines, short, low);
+    count = r .stands .held .count ∙ sym (length-reverse (r .state .wires));
+    records = r .stands .held .records;
+  }
+
+-- ---- the second line
+
+-- a second line that is absent is wrong, wherever it is looked for
+absent : (at : ℕ) → masksLine at [] ≡ MasksLine.Wrong
+unfolding masksLine
+absent at = refl
+
+pub second-line : (text : List ℕ) (from : ℕ) → from ≡ secondLine text → masksLine from (drop from text) ≡ masksLine 10 (drop 10 text)
+second-line text from e = ap (λ (k : ℕ). masksLine k (drop k text)) e ∙ go (ltb (length text) 10) refl
+  where
+    go : (b : Bool) → ltb (length text) 10 ≡ b
+        → masksLine (cond b (length text) 10) (drop (cond b (length text) 10) text) ≡ masksLine 10 (drop 10 text)
+    go true f =
+        let less = ltb-true (length text) 10 f in
+        ap (masksLine (length text)) (drop-length text) ∙ absent (length text)
+        ∙ sym (ap (masksLine 10) (drop-of-length-le text {i = 10} (omega (arith, less))) ∙ absent 10)
+    go false f = refl
+
+pub second-inside : (text : List ℕ) (from : ℕ) → from ≡ secondLine text → from ≤ length text
+second-inside text from e = subst (λ (k : ℕ). k ≤ length text) (sym e) (go (ltb (length text) 10) refl)
+  where
+    go : (b : Bool) → ltb (length text) 10 ≡ b → cond b (length text) 10 ≤ length text
+    go true f = omega arith
+    go false f = ltb-false (length text) 10 f
+
+module _ (text : List ℕ) (order from : ℕ) (line : MasksLine) (start-there : from ≡ secondLine text) (e : line ≡ masksLine from (drop from text)) where
+  -- what was read as the second line
+  there : line ≡ masksLine 10 (drop 10 text)
+  there = e ∙ second-line text from start-there
+
+  pub second-wrong : (scratch : List ℕ) → line ≡ MasksLine.Wrong → SecondReads text order scratch (ReadAnswer.Refused WrongMasksLine from)
+  second-wrong scratch f =
+      ap (afterMasks text order) (sym there ∙ f) ∙ ap (λ (k : ℕ). turnedDown WrongMasksLine k) (sym start-there)
+
+  pub second-declared : (m : Masks) (scratch : List ℕ) (r : ReadAnswer) → line ≡ MasksLine.Declared m → LinesListed text order m scratch r
+      → SecondReads text order scratch r
+  second-declared m scratch r f reads =
+      subst (λ (o : Reading). OutcomeRead o scratch r) (sym (ap (afterMasks text order) (sym there ∙ f))) reads
+
+  pub masks-inside : (m : Masks) → orderLine text ≡ OrderLine.Order order → line ≡ MasksLine.Declared m
+      → (order ≤ 7) × (m .end ≤ length text)
+  masks-inside m o f =
+      let h = header-spelled text order m o (sym there ∙ f) in (h .1 .digit .1, h .1 .inside)
+
+-- ---- the first line
+
+module _ (text scratch : List ℕ) where
+  pub text-long : 4096 < length text → ScratchReads text scratch (ReadAnswer.Refused TextTooLong 4096)
+  text-long h = ap (λ (b : Bool). cond b (turnedDown TextTooLong maxText) (afterOrder text (orderLine text))) (lt-ltb maxText (length text) h)
+
+  module _ (short : length text ≤ 4096) (line : OrderLine) (e : line ≡ orderLine text) where
+    -- a text that is not too long
+    begins : reading text ≡ afterOrder text line
+    begins =
+        ap (λ (b : Bool). cond b (turnedDown TextTooLong maxText) (afterOrder text (orderLine text))) (le-ltb maxText (length text) short)
+        ∙ ap (afterOrder text) (sym e)
+
+    pub first-wrong : line ≡ OrderLine.Wrong → ScratchReads text scratch (ReadAnswer.Refused WrongOrderLine 0)
+    first-wrong f = begins ∙ ap (afterOrder text) f
+
+    pub first-given : (order : ℕ) (r : ReadAnswer) → line ≡ OrderLine.Order order → SecondReads text order scratch r → ScratchReads text scratch r
+    first-given order r f reads = subst (λ (o : Reading). OutcomeRead o scratch r) (sym (begins ∙ ap (afterOrder text) f)) reads

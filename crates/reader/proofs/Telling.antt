@@ -1,0 +1,211 @@
+-- What reading tells, and what the answer then says of the text's grammar.
+--     read-refused, read-many, read-short, read-copied     the answer where the text is turned down, where it has too many wires, where the
+--                        lent table is too short, and where the records are copied into it
+--     promised           both promises of reading, from its equation
+--     reads-grammar      whatever is told as the definition tells it is read exactly when the text spells a description within the limits, and
+--                        gives that description's wires
+use Prim.Native.Nat.{ℕ, _+_, _*_, _≤_, _<_}
+use native.Mathlib.Omega.{arith}
+use mathlib.Core.Path.{_≡_, refl, sym, _∙_, ap, ap₂, subst}
+use mathlib.Core.Bool.{Bool, true, false, cond, _||_}
+use mathlib.Core.List.{List, [], _∷_, _++_}
+use borrow.Author.Tests.{ltb-false, lt-ltb, le-ltb}
+use lib.Dec.{ltb}
+use lib.ListN.{length, take, drop, length-append, length-drop}
+use lib.Seq.{take-at}
+use Rattle.basics.specs.Told.{values}
+use Rattle.basics.proofs.Tests.{or-left, or-right, or-none}
+use Rattle.records.specs.Layout.{recordBytes}
+use Rattle.table.specs.Answers.{tableCheck}
+use Rattle.description.specs.Listing.{recordsOf}
+use Rattle.description.specs.Grammar.{Description, Spells, Limits, wiresOf, maskCount}
+use Rattle.description.specs.Run.{Reading, read, turnedDown, reading, refusalNumber}
+use Rattle.description.specs.declared.Listed.{Listed}
+use Rattle.description.specs.declared.Refusal.{Refusal}
+use Rattle.description.specs.declared.Refusal.the-variants.{TooManyWires}
+use Rattle.description.proofs.Encoding.{length-records}
+use Rattle.description.proofs.Exactly.{spelled-read, read-spelled, spelled-limits}
+use Rattle.description.proofs.Tables.{table-passes}
+use Rattle.reader.specs.Answers.{ReadTold, ReadLent, gives, refused, readTold, tooLarge, lentReading, readText, Scratched}
+use Rattle.reader.specs.Reads.{Readable, Given, ReadsGrammar}
+use Rattle.reader.specs.declared.ReadAnswer.{ReadAnswer}
+
+module _ (text table : List ℕ) where
+  pub read-refused : (why : Refusal) (offset : ℕ) → reading text ≡ turnedDown why offset
+      → readTold (ReadAnswer.Refused why offset) table ≡ readText text table
+  read-refused why offset e = sym (ap (lentReading text table) e)
+
+  module _ (scratch : List ℕ) (order shares masks wires : ℕ) (s : Scratched (reading text) scratch order shares masks wires) where
+    -- what is to be told of a text whose wires were listed
+    told : (large : Bool) → tooLarge table wires ≡ large
+        → readText text table
+        ≡ cond large (record { told = refused 10 (length text); held = table })
+        (record {
+          told = gives order (order + 1) masks wires;
+          held = recordsOf (s .listed-wires) ++ drop (recordBytes * wires) table;
+        })
+    told large e =
+        ap (lentReading text table) (s .reads)
+        ∙ ap
+        (λ (n : ℕ).
+        cond (tooLarge table n) (record { told = refused 10 (length text); held = table })
+        (record { told = gives order (order + 1) masks n; held = recordsOf (s .listed-wires) ++ drop (recordBytes * n) table }))
+        (sym (s .count))
+        ∙ ap
+        (λ (b : Bool).
+        cond {A = ReadLent} b (record { told = refused 10 (length text); held = table })
+        (record { told = gives order (order + 1) masks wires; held = recordsOf (s .listed-wires) ++ drop (recordBytes * wires) table }))
+        e
+
+    pub read-many : 512 < wires → readTold (ReadAnswer.Refused TooManyWires (length text)) table ≡ readText text table
+    read-many h = sym (told true (or-left (ltb 512 wires) (ltb (length table) (24 * wires)) (lt-ltb 512 wires h)))
+
+    pub read-short : length table < 24 * wires → readTold (ReadAnswer.Refused TooManyWires (length text)) table ≡ readText text table
+    read-short h = sym (told true (or-right (ltb 512 wires) (ltb (length table) (24 * wires)) (lt-ltb (length table) (24 * wires) h)))
+
+    pub read-copied : (held : List ℕ) → wires ≤ 512 → 24 * wires ≤ length table
+        → held ≡ take (24 * wires) scratch ++ drop (24 * wires) table
+        → readTold (ReadAnswer.Read order shares masks wires) held ≡ readText text table
+    read-copied held few room e =
+        ap₂ (λ (n : ℕ) (l : List ℕ). readTold (ReadAnswer.Read order n masks wires) l) (s .same-shares)
+        (e ∙ ap (λ (l : List ℕ). l ++ drop (24 * wires) table) (s .records few))
+        ∙ sym (told false (ap₂ _||_ (le-ltb 512 wires few) (le-ltb (length table) (24 * wires) room)))
+
+  -- ---- the grammar
+
+  -- what a text that is told as read gives: it spells a description, and there is room for its wires
+  record Granted (order shares masks wires : ℕ) (held : List ℕ) : Type 0 where
+    listed-wires : List Listed
+    reads : reading text ≡ read order masks listed-wires
+    same-shares : shares ≡ order + 1
+    same-count : wires ≡ length listed-wires
+    few : length listed-wires ≤ 512
+    room : 24 * length listed-wires ≤ length table
+    holds : held ≡ recordsOf listed-wires ++ drop (24 * length listed-wires) table
+
+  granted : (order shares masks wires : ℕ) (held : List ℕ) → readTold (ReadAnswer.Read order shares masks wires) held ≡ readText text table
+      → Granted order shares masks wires held
+  granted order shares masks wires held e = from (reading text) refl e
+    where
+      from : (r : Reading) → reading text ≡ r → readTold (ReadAnswer.Read order shares masks wires) held ≡ lentReading text table r
+          → Granted order shares masks wires held
+      from (turnedDown why offset) f e =
+          let same : gives order shares masks wires ≡ refused (refusalNumber why) offset = ap (λ (l : ReadLent). l .told) e in
+          let z : _≡_ {A = ℕ} 0 1 = cc in absurd (omega (arith, z))
+      from (read o m ws) f e = sized (tooLarge table (length ws)) refl e
+        where
+          sized : (b : Bool) → tooLarge table (length ws) ≡ b
+              → readTold (ReadAnswer.Read order shares masks wires) held
+              ≡ cond b (record { told = refused 10 (length text); held = table })
+              (record { told = gives o (o + 1) m (length ws); held = recordsOf ws ++ drop (24 * length ws) table })
+              → Granted order shares masks wires held
+          sized true g e =
+              let same : gives order shares masks wires ≡ refused 10 (length text) = ap (λ (l : ReadLent). l .told) e in
+              let z : _≡_ {A = ℕ} 0 1 = cc in absurd (omega (arith, z))
+          sized false g e =
+              let h = or-none (ltb 512 (length ws)) (ltb (length table) (24 * length ws)) g in
+              let same : gives order shares masks wires ≡ gives o (o + 1) m (length ws) = ap (λ (l : ReadLent). l .told) e in
+              let eo : o ≡ order = cc in
+              let em : m ≡ masks = cc in
+              let es : shares ≡ o + 1 = cc in
+              record {
+                listed-wires = ws;
+                reads = f ∙ ap₂ (λ (x y : ℕ). read x y ws) eo em;
+                same-shares = es ∙ ap (λ (x : ℕ). x + 1) eo;
+                same-count = (let ew : wires ≡ length ws = cc in ew);
+                few = ltb-false 512 (length ws) (h .0);
+                room = ltb-false (length table) (24 * length ws) (h .1);
+                holds = ap (λ (l : ReadLent). l .held) e;
+              }
+
+  -- the records stand at the start of the table
+  held-records : (order shares masks wires : ℕ) (held : List ℕ) (g : Granted order shares masks wires held)
+      → take (24 * wires) held ≡ recordsOf (g .listed-wires)
+  held-records order shares masks wires held g =
+      ap₂ (λ (n : ℕ) (l : List ℕ). take (24 * n) l) (g .same-count) (g .holds)
+      ∙ take-at (recordsOf (g .listed-wires)) (drop (24 * length (g .listed-wires)) table) (24 * length (g .listed-wires))
+      (length-records (g .listed-wires))
+
+  given : (order shares masks wires : ℕ) (held : List ℕ) → Granted order shares masks wires held → (d : Description) → Spells text d
+      → Given d order shares masks wires held
+  given order shares masks wires held g d spells =
+      let limits = spelled-limits text order masks (g .listed-wires) (g .reads) d spells in
+      let same : read order masks (g .listed-wires) ≡ read (d .order) (maskCount (d .names)) (wiresOf d) =
+      sym (g .reads) ∙ spelled-read text d spells limits in
+      let eo : order ≡ d .order = cc in
+      let em : masks ≡ maskCount (d .names) = cc in
+      let ew : g .listed-wires ≡ wiresOf d = cc in
+      record {
+        same-order = eo;
+        same-shares = g .same-shares ∙ ap (λ (n : ℕ). n + 1) eo;
+        same-masks = em;
+        same-count = g .same-count ∙ ap length ew;
+        same-wires = held-records order shares masks wires held g ∙ ap recordsOf ew;
+      }
+
+  passes : (order shares masks wires : ℕ) (held : List ℕ) → Granted order shares masks wires held
+      → tableCheck (take (24 * wires) held) shares masks ≡ values []
+  passes order shares masks wires held g =
+      let s = read-spelled text order masks (g .listed-wires) (g .reads) in
+      let d = s .description in
+      let v = given order shares masks wires held g d (s .spells) in
+      ap₂ (λ (n m : ℕ). tableCheck (take (24 * wires) held) n m) (v .same-shares) (v .same-masks)
+      ∙ ap (λ (l : List ℕ). tableCheck l (d .order + 1) (maskCount (d .names))) (v .same-wires)
+      ∙ table-passes text d (s .spells) (s .limits) (subst (λ (ws : List Listed). length ws ≤ 512) (s .same-wires) (g .few))
+
+  readable : (order shares masks wires : ℕ) (held : List ℕ) → Granted order shares masks wires held → Readable text (length table)
+  readable order shares masks wires held g =
+      let s = read-spelled text order masks (g .listed-wires) (g .reads) in
+      record {
+        description = s .description;
+        spells = s .spells;
+        limits = s .limits;
+        few-wires = subst (λ (ws : List Listed). length ws ≤ 512) (s .same-wires) (g .few);
+        table-room = subst (λ (ws : List Listed). 24 * length ws ≤ length table) (s .same-wires) (g .room);
+      }
+
+  -- a readable text is told as read
+  readable-told : (r : Readable text (length table)) → let d = r .description in let ws = wiresOf d in
+      readText text table
+      ≡ record {
+        told = gives (d .order) (d .order + 1) (maskCount (d .names)) (length ws);
+        held = recordsOf ws ++ drop (24 * length ws) table;
+      }
+  readable-told r =
+      let d = r .description in
+      let ws = wiresOf d in
+      ap (lentReading text table) (spelled-read text d (r .spells) (r .limits))
+      ∙ ap
+      (λ (b : Bool).
+      cond {A = ReadLent} b (record { told = refused 10 (length text); held = table })
+      (record { told = gives (d .order) (d .order + 1) (maskCount (d .names)) (length ws); held = recordsOf ws ++ drop (24 * length ws) table }))
+      (ap₂ _||_ (le-ltb 512 (length ws) (r .few-wires)) (le-ltb (length table) (24 * length ws) (r .table-room)))
+
+  pub reads-grammar : (answer : ReadAnswer) (held : List ℕ) → readTold answer held ≡ readText text table
+      → ReadsGrammar answer text (length table) held
+  reads-grammar (ReadAnswer.Read order shares masks wires) held e =
+      let g = granted order shares masks wires held e in
+      record {
+        read-exactly = (λ _. readable order shares masks wires held g, λ _ why offset f. let z : _≡_ {A = ℕ} 0 1 = cc in absurd (omega (arith, z)));
+        read-gives =
+            λ o s m w f d spells.
+            given o s m w held (granted o s m w held (ap (λ (a : ReadAnswer). readTold a held) (sym f) ∙ e)) d spells;
+        read-passes = λ o s m w f. passes o s m w held (granted o s m w held (ap (λ (a : ReadAnswer). readTold a held) (sym f) ∙ e));
+      }
+  reads-grammar (ReadAnswer.Refused why offset) held e = record {
+    read-exactly = (
+      λ never. absurd (never why offset refl),
+      λ r why′ offset′ f.
+          let h : refused (refusalNumber why) offset
+          ≡ gives (r .description .order) (r .description .order + 1) (maskCount (r .description .names)) (length (wiresOf (r .description))) =
+          ap (λ (l : ReadLent). l .told) (e ∙ readable-told r) in
+          let z : _≡_ {A = ℕ} 0 1 = cc in absurd (omega (arith, z)),
+    );
+    read-gives = λ o s m w f d spells. let z : _≡_ {A = ℕ} 0 1 = cc in absurd (omega (arith, z));
+    read-passes = λ o s m w f. let z : _≡_ {A = ℕ} 0 1 = cc in absurd (omega (arith, z));
+  }
+
+  -- both promises of reading
+  pub promised : (answer : ReadAnswer) (held : List ℕ) → readTold answer held ≡ readText text table
+      → (readTold answer held ≡ readText text table) × ReadsGrammar answer text (length table) held
+  promised answer held e = (e, reads-grammar answer held e)

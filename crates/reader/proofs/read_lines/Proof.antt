@@ -1,0 +1,60 @@
+-- `reader::read_lines` meets its contract: what the lines gave is what the run gives.
+-- Assumes nothing.
+use Prim.Native.Nat.{_+_}
+use mathlib.Core.Path.{subst}
+use Rattle.reader.specs.Going.{LinesRead}
+use Rattle.reader.specs.declared.groups.Answer.{Answer}
+use Rattle.reader.proofs.Heading.{lines-refused, lines-scratched}
+use borrow.Author.Needs.{needs}
+use Rattle.reader.proofs.read_lines.Statement.{statement}
+use Rattle.reader.proofs.read_lines.Tie as tie
+
+add-lines : tie.Need-add-lines
+add-lines c = search needs
+
+lines-requires : tie.Need-lines-requires
+lines-requires c κs = search needs
+
+enum-known-read : tie.Need-enum-known-read
+enum-known-read c = search needs
+
+enum-known-read-2 : tie.Need-enum-known-read-2
+enum-known-read-2 c = search needs
+
+add-t13 : tie.Need-add-t13
+add-t13 c = search needs
+
+same-length : tie.Need-same-length
+same-length c = search needs
+
+returns : tie.Need-returns
+returns c =
+    let a = c .before .before .before .before .before .before .before .before .before .args in
+    lines-refused (a .text .now) (a .order) (a .masks) (c .before .before .before .before .before .lines .last .1 .0) _ _
+    (subst (λ (r : Answer). LinesRead (a .order + 1) (a .masks .declared) (a .text .now) (a .masks .end) (c .before .before .before .before .before .lines .last .1 .0) r) (c .before .read .given .1)
+    (c .before .before .before .before .before .lines .ensures))
+
+same-length-2 : tie.Need-same-length-2
+same-length-2 c = search needs
+
+returns-2 : tie.Need-returns-2
+returns-2 c =
+    let a = c .before .before .before .before .before .before .before .before .before .args in
+    let pre = c .before .before .before .before .before .before .before .before .before .pre in
+    lines-scratched (a .text .now) (a .order) (a .masks) (c .before .before .before .before .before .lines .last .1 .0) _ (pre .0) (pre .2)
+    (subst (λ (r : Answer). LinesRead (a .order + 1) (a .masks .declared) (a .text .now) (a .masks .end) (c .before .before .before .before .before .lines .last .1 .0) r) (c .before .read2 .given .1)
+    (c .before .before .before .before .before .lines .ensures))
+
+pub read-lines-spec : {M : Type 1} → statement M
+read-lines-spec =
+    tie.close
+    (tie.spec
+    add-lines
+    lines-requires
+    enum-known-read
+    enum-known-read-2
+    add-t13
+    same-length
+    returns
+    same-length-2
+    returns-2)

@@ -1,0 +1,39 @@
+-- What an answer of reading says of the text's grammar (demand 2: a text is read into just the wires that its grammar gives it).
+--     Readable         the text spells a description within the limits, and the lent table has room for its wires
+--     Given            what a text that was read gives: the order, shares, masks and wires of each description that it spells
+--     ReadsGrammar     read exactly when the text is readable, and what is then given
+use Prim.Native.Nat.{ℕ, _+_, _*_, _≤_}
+use mathlib.Core.Path.{_≡_}
+use mathlib.Core.Logic.{_↔_}
+use mathlib.Core.List.{List, []}
+use lib.ListN.{length, take}
+use Rattle.basics.specs.Told.{values}
+use Rattle.records.specs.Layout.{recordBytes}
+use Rattle.table.specs.Answers.{tableCheck}
+use Rattle.description.specs.Listing.{recordsOf}
+use Rattle.description.specs.Grammar.{Description, Spells, Limits, wiresOf, maskCount}
+use Rattle.description.specs.declared.Refusal.{Refusal}
+use Rattle.reader.specs.Answers.{maxWires}
+use Rattle.reader.specs.declared.ReadAnswer.{ReadAnswer}
+
+pub record Readable (text : List ℕ) (room : ℕ) : Type 0 where
+  pub description : Description
+  pub spells : Spells text description
+  pub limits : Limits text description
+  pub few-wires : length (wiresOf description) ≤ maxWires
+  pub table-room : recordBytes * length (wiresOf description) ≤ room
+
+pub record Given (d : Description) (order shares masks wires : ℕ) (held : List ℕ) : Type 0 where
+  pub same-order : order ≡ d .order
+  pub same-shares : shares ≡ d .order + 1
+  pub same-masks : masks ≡ maskCount (d .names)
+  pub same-count : wires ≡ length (wiresOf d)
+  pub same-wires : take (recordBytes * wires) held ≡ recordsOf (wiresOf d)
+
+pub record ReadsGrammar (answer : ReadAnswer) (text : List ℕ) (room : ℕ) (held : List ℕ) : Type 0 where
+  pub read-exactly : ((why : Refusal) (offset : ℕ) → answer ≡ ReadAnswer.Refused why offset → ⊥) ↔ Readable text room
+  pub read-gives : (order shares masks wires : ℕ) → answer ≡ ReadAnswer.Read order shares masks wires → (d : Description) → Spells text d
+      → Given d order shares masks wires held
+  -- the tests of every operation on a table accept it
+  pub read-passes : (order shares masks wires : ℕ) → answer ≡ ReadAnswer.Read order shares masks wires
+      → tableCheck (take (recordBytes * wires) held) shares masks ≡ values []
