@@ -16,6 +16,6 @@ pub mod Gathering
 pub mod Ending
 pub mod Outputs
 pub mod Heading
-pub mod Telling
 pub mod Parts
+pub mod Telling
 pub mod Samples

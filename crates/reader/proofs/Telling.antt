@@ -4,7 +4,8 @@
 --     promised           both promises of reading, from its equation
 --     reads-grammar      whatever is told as the definition tells it is read exactly when the text spells a description within the limits, and
 --                        gives that description's wires
-use Prim.Native.Nat.{ℕ, _+_, _*_, _≤_, _<_}
+use Prim.Native.Nat.{ℕ, _+_, _*_, _%_, _≤_, _<_}
+use native.Mathlib.Nat.{mul-comm, mul-mod-left}
 use native.Mathlib.Omega.{arith}
 use mathlib.Core.Path.{_≡_, refl, sym, _∙_, ap, ap₂, subst}
 use mathlib.Core.Bool.{Bool, true, false, cond, _||_}
@@ -13,7 +14,8 @@ use borrow.Author.Tests.{ltb-false, lt-ltb, le-ltb}
 use lib.Dec.{ltb}
 use lib.ListN.{length, take, drop, length-append, length-drop}
 use lib.Seq.{take-at}
-use Rattle.basics.specs.Told.{values}
+use Rattle.basics.specs.Told.{values, refusal}
+use Rattle.basics.proofs.Telling.{values-refusal}
 use Rattle.basics.proofs.Tests.{or-left, or-right, or-none}
 use Rattle.records.specs.Layout.{recordBytes}
 use Rattle.table.specs.Answers.{tableCheck}
@@ -23,11 +25,12 @@ use Rattle.description.specs.Run.{Reading, read, turnedDown, reading, refusalNu
 use Rattle.description.specs.declared.Listed.{Listed}
 use Rattle.description.specs.declared.Refusal.{Refusal}
 use Rattle.description.specs.declared.Refusal.the-variants.{TooManyWires}
-use Rattle.description.proofs.Encoding.{length-records}
+use Rattle.description.proofs.Encoding.{length-records, record-count}
 use Rattle.description.proofs.Exactly.{spelled-read, read-spelled, spelled-limits}
-use Rattle.description.proofs.Tables.{table-passes}
-use Rattle.reader.specs.Answers.{ReadTold, ReadLent, gives, refused, readTold, tooLarge, lentReading, readText, Scratched}
+use Rattle.description.proofs.Tables.{table-passes, parts-within}
+use Rattle.reader.specs.Answers.{ReadTold, ReadLent, gives, refused, readTold, tooLarge, lentReading, readText, partCheck, Scratched}
 use Rattle.reader.specs.Reads.{Readable, Given, ReadsGrammar}
+use Rattle.reader.proofs.Parts.{part-exactly}
 use Rattle.reader.specs.declared.ReadAnswer.{ReadAnswer}
 
 module _ (text table : List ℕ) where
@@ -153,6 +156,29 @@ module _ (text table : List ℕ) where
       ∙ ap (λ (l : List ℕ). tableCheck l (d .order + 1) (maskCount (d .names))) (v .same-wires)
       ∙ table-passes text d (s .spells) (s .limits) (subst (λ (ws : List Listed). length ws ≤ 512) (s .same-wires) (g .few))
 
+  -- the check of a text part accepts every wire of a table that was read
+  parts : (order shares masks wires : ℕ) (held : List ℕ) → Granted order shares masks wires held → (wire number : ℕ) → wire < wires
+      → partCheck text (take (24 * wires) held) wire ≡ refusal number → ⊥
+  parts order shares masks wires held g wire number less e =
+      let s = read-spelled text order masks (g .listed-wires) (g .reads) in
+      let d = s .description in
+      let v = given order shares masks wires held g d (s .spells) in
+      let few = subst (λ (ws : List Listed). length ws ≤ 512) (s .same-wires) (g .few) in
+      let known : wire < length (wiresOf d) = subst (λ (n : ℕ). wire < n) (v .same-count) less in
+      let count = length-records (wiresOf d) in
+      let told = part-exactly text (recordsOf (wiresOf d)) wire _ _ .1 (record {
+        whole = ap (λ (n : ℕ). n % 24) count ∙ multiple (length (wiresOf d));
+        short = omega (arith, count, few);
+        known = subst (λ (n : ℕ). wire < n) (sym (record-count (wiresOf d))) known;
+        same-offset = refl;
+        same-size = refl;
+        inside = parts-within text d (s .spells) (s .limits) wire known;
+      }) in
+      values-refusal _ number (sym told ∙ ap (λ (l : List ℕ). partCheck text l wire) (sym (v .same-wires)) ∙ e)
+    where
+      multiple : (n : ℕ) → 24 * n % 24 ≡ 0
+      multiple n = ap (λ (k : ℕ). k % 24) (mul-comm 24 n) ∙ mul-mod-left n 24
+
   readable : (order shares masks wires : ℕ) (held : List ℕ) → Granted order shares masks wires held → Readable text (length table)
   readable order shares masks wires held g =
       let s = read-spelled text order masks (g .listed-wires) (g .reads) in
@@ -191,6 +217,7 @@ module _ (text table : List ℕ) where
             λ o s m w f d spells.
             given o s m w held (granted o s m w held (ap (λ (a : ReadAnswer). readTold a held) (sym f) ∙ e)) d spells;
         read-passes = λ o s m w f. passes o s m w held (granted o s m w held (ap (λ (a : ReadAnswer). readTold a held) (sym f) ∙ e));
+        read-parts = λ o s m w f. parts o s m w held (granted o s m w held (ap (λ (a : ReadAnswer). readTold a held) (sym f) ∙ e));
       }
   reads-grammar (ReadAnswer.Refused why offset) held e = record {
     read-exactly = (
@@ -203,6 +230,7 @@ module _ (text table : List ℕ) where
     );
     read-gives = λ o s m w f d spells. let z : _≡_ {A = ℕ} 0 1 = cc in absurd (omega (arith, z));
     read-passes = λ o s m w f. let z : _≡_ {A = ℕ} 0 1 = cc in absurd (omega (arith, z));
+    read-parts = λ o s m w f wire number less g. let z : _≡_ {A = ℕ} 0 1 = cc in absurd (omega (arith, z));
   }
 
   -- both promises of reading

@@ -1,19 +1,19 @@
 -- What an answer of reading says of the text's grammar (demand 2: a text is read into just the wires that its grammar gives it).
 --     Readable         the text spells a description within the limits, and the lent table has room for its wires
 --     Given            what a text that was read gives: the order, shares, masks and wires of each description that it spells
---     ReadsGrammar     read exactly when the text is readable, and what is then given
-use Prim.Native.Nat.{ℕ, _+_, _*_, _≤_}
+--     ReadsGrammar     read exactly when the text is readable, what is then given, and that the operations on a table and on a text part accept it
+use Prim.Native.Nat.{ℕ, _+_, _*_, _≤_, _<_}
 use mathlib.Core.Path.{_≡_}
 use mathlib.Core.Logic.{_↔_}
 use mathlib.Core.List.{List, []}
 use lib.ListN.{length, take}
-use Rattle.basics.specs.Told.{values}
+use Rattle.basics.specs.Told.{values, refusal}
 use Rattle.records.specs.Layout.{recordBytes}
 use Rattle.table.specs.Answers.{tableCheck}
 use Rattle.description.specs.Listing.{recordsOf}
 use Rattle.description.specs.Grammar.{Description, Spells, Limits, wiresOf, maskCount}
 use Rattle.description.specs.declared.Refusal.{Refusal}
-use Rattle.reader.specs.Answers.{maxWires}
+use Rattle.reader.specs.Answers.{maxWires, partCheck}
 use Rattle.reader.specs.declared.ReadAnswer.{ReadAnswer}
 
 pub record Readable (text : List ℕ) (room : ℕ) : Type 0 where
@@ -37,3 +37,6 @@ pub record ReadsGrammar (answer : ReadAnswer) (text : List ℕ) (room : ℕ) (he
   -- the tests of every operation on a table accept it
   pub read-passes : (order shares masks wires : ℕ) → answer ≡ ReadAnswer.Read order shares masks wires
       → tableCheck (take (recordBytes * wires) held) shares masks ≡ values []
+  -- the part of every wire lies within the text
+  pub read-parts : (order shares masks wires : ℕ) → answer ≡ ReadAnswer.Read order shares masks wires → (wire number : ℕ) → wire < wires
+      → partCheck text (take (recordBytes * wires) held) wire ≡ refusal number → ⊥
