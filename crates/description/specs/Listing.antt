@@ -3,6 +3,7 @@
 --     sumBytes, placeBytes  what a record says of a wire's sum, of its place in the text
 --     encode w              the 24 bytes of a wire's record
 --     recordsOf ws          the records of wires, in their order
+--     maxWires              the most wires of a table
 --     symbolWire p          the inner wire of a symbol's first use
 --     outerWire line p      the outer wire of a line that is a single symbol
 --     madeOuter line w      the wire, made the outer one of a line
@@ -38,6 +39,9 @@ encode w = sumBytes (w .sum) ++ placeBytes w
 abbrev pub recordsOf : List Listed → List ℕ
 recordsOf [] = []
 recordsOf (w ∷ ws) = encode w ++ recordsOf ws
+
+abbrev pub maxWires : ℕ
+maxWires = 512
 
 abbrev pub symbolWire : PlacedSymbol → Listed
 symbolWire p =

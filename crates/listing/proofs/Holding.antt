@@ -2,20 +2,18 @@
 --     sum-written, place-written, record-written      the writes of a record, one after the other
 --     lists-record, lists-full                        a wire listed while there is room, and when there is none
 --     outer-none, outer-newest, outer-full            no wire to be made outer, the newest, one that is not in the table
-use Prim.Native.Nat.{ℕ, zero, suc, _+_, _*_, _-_, _≤_, _<_}
+use Prim.Native.Nat.{ℕ, suc, _+_, _*_, _-_, _≤_, _<_}
 use native.Mathlib.Omega.{arith}
 use mathlib.Core.Path.{_≡_, refl, sym, _∙_, ap}
-use mathlib.Core.Bool.{Bool}
-use mathlib.Core.List.{List, [], _∷_, _++_, reverse, reverse-cons}
+use mathlib.Core.List.{List, [], _∷_, _++_, reverse, reverse-cons, append-nil}
 use lib.ListN.{length, take, drop, length-append, length-reverse}
-use lib.Seq.{sets, sets-eq, take-at, length-take-le, length-sets}
+use lib.Seq.{sets, sets-eq, take-at, length-take-le}
 use Rattle.basics.specs.Folds.{oneIf}
 use Rattle.records.specs.declared.sums.Sum.{Sum}
 use Rattle.description.specs.Listing.{bytesOf, sumBytes, placeBytes, encode, recordsOf, madeOuter}
-use Rattle.description.specs.Run.{newestOuter}
 use Rattle.description.specs.declared.Listed.{Listed}
 use Rattle.description.proofs.Encoding.{length-encode, length-records, records-append}
-use Rattle.listing.specs.Progress.{Held, Lists, MakesOuter}
+use Rattle.listing.specs.Progress.{Lists, MakesOuter}
 use Rattle.listing.proofs.Writing.{written-after, take-sets, sets-right}
 
 module _ (l₀ l₁ l₂ l₃ l₄ : List ℕ) (at : ℕ) where
@@ -51,11 +49,7 @@ record-written l₀ l₁ l₂ at w e f = written-after l₀ l₁ l₂ at (at + 1
 records-more : (w : Listed) (ws : List Listed) → recordsOf (reverse (w ∷ ws)) ≡ recordsOf (reverse ws) ++ encode w
 records-more w ws =
     ap recordsOf (reverse-cons w ws) ∙ records-append (reverse ws) (w ∷ [])
-    ∙ ap (λ (l : List ℕ). recordsOf (reverse ws) ++ l) (append-nothing (encode w))
-  where
-    append-nothing : (l : List ℕ) → l ++ [] ≡ l
-    append-nothing [] = refl
-    append-nothing (x ∷ l) = ap {B = List ℕ} (λ r. x ∷ r) (append-nothing l)
+    ∙ ap (λ (l : List ℕ). recordsOf (reverse ws) ++ l) (append-nil (encode w))
 
 pub lists-record : (table table′ : List ℕ) (n : ℕ) (w : Listed) → n < 512 → length table ≡ 12288 → table′ ≡ sets table (24 * n) (encode w)
     → Lists table n table′ w
@@ -115,7 +109,8 @@ outer-newest l₀ l₁ l₂ n line h e f (w ∷ ws) held = record {
       ap (take (24 * n)) f ∙ take-sets (24 * n) l₁ (24 * (n - 1) + 19) two b
       ∙ ap (λ (l : List ℕ). sets l (24 * (n - 1) + 19) two)
       (ap (take (24 * n)) e ∙ take-sets (24 * n) l₀ (24 * (n - 1) + 18) one a
-      ∙ ap (λ (l : List ℕ). sets l (24 * (n - 1) + 18) one) (held .records few ∙ records-more w ws) ∙ sets-right r (encode w) 18 (24 * (n - 1) + 18) one i)
+      ∙ ap (λ (l : List ℕ). sets l (24 * (n - 1) + 18) one) (held .records few ∙ records-more w ws)
+      ∙ sets-right r (encode w) 18 (24 * (n - 1) + 18) one i)
       ∙ sets-right r (sets (encode w) 18 one) 19 (24 * (n - 1) + 19) two j
       ∙ ap (λ (l : List ℕ). r ++ l) (encoded-outer w line)
       ∙ sym (records-more (madeOuter line w) ws);

@@ -12,13 +12,13 @@ use Prim.Native.Nat.{ℕ, _+_, _-_, _≤_}
 use native.Mathlib.Omega.{arith}
 use mathlib.Core.Path.{_≡_, refl, sym, _∙_, ap, ap₂, subst}
 use mathlib.Core.Bool.{Bool, true, false, cond, not, _||_, true≢false, or-true, or-false}
-use mathlib.Core.List.{List, [], _∷_}
+use mathlib.Core.List.{List, _∷_}
 use lib.Dec.{ltb}
 use Rattle.basics.specs.Folds.{oneIf}
 use Rattle.records.specs.Layout.{plusSum}
 use Rattle.records.specs.declared.sums.Sum.{Sum}
 use Rattle.description.specs.Symbols.{symbolSum, symbolLength, isIn}
-use Rattle.description.specs.Listing.{symbolWire, madeOuter, outerWire, emptyGroup, additionWire, putInto}
+use Rattle.description.specs.Listing.{symbolWire, madeOuter, outerWire, emptyGroup, additionWire}
 use Rattle.description.specs.Run.{Around, State, placed, used, put, took, symbolItem, lineDone, newestOuter}
 use Rattle.description.specs.declared.Symbol.{Symbol}
 use Rattle.description.specs.declared.Symbol.the-variants.{Product, ShareA, ShareB, Mask}
@@ -93,7 +93,8 @@ module _ (table : List ℕ) (p : Progress) (known : PlacedSymbol) where
 
 module _ (table : List ℕ) (p : Progress) (item : Item) where
   follows-put : (table′ : List ℕ) → (p .group .filled ≡ false → table′ ≡ table)
-      → (p .group .filled ≡ true → Lists table (p .wires) table′ (additionWire (p .group) item)) → Follows table p table′ (putProgress item p) (put item)
+      → (p .group .filled ≡ true → Lists table (p .wires) table′ (additionWire (p .group) item))
+      → Follows table p table′ (putProgress item p) (put item)
   unfolding Lists
   follows-put table′ same lists =
       follow table table′ p (putProgress item p) (put item)
@@ -119,7 +120,8 @@ module _ (table : List ℕ) (p : Progress) (item : Item) where
       progress (item .end) (p .wires + oneIf b) (p .seen) (p .lines) (p .added || b) (p .last) (cond b grown begun)
 
   pub put-first : p .group .filled ≡ false
-      → Step table p table (progress (item .end) (p .wires) (p .seen) (p .lines) (p .added) (p .last) (record { sum = item .sum; filled = true; first = item .from }))
+      → Step table p table (progress (item .end) (p .wires) (p .seen) (p .lines) (p .added) (p .last)
+      (record { sum = item .sum; filled = true; first = item .from }))
       (putProgress item p) (put item)
   put-first e =
       let z : p .wires ≡ p .wires + 0 = omega arith in

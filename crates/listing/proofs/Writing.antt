@@ -4,7 +4,7 @@
 --     take-sets              of the first n bytes, those written
 --     sets-right             bytes written into the second of two lists
 --     bytes-start, bytes-more, bytes-all       before each byte is written, the bytes still to be written
-use Prim.Native.Nat.{ℕ, zero, suc, _+_, _-_, _/_, _%_, _≤_, _<_}
+use Prim.Native.Nat.{ℕ, suc, _+_, _-_, _/_, _%_, _≤_, _<_}
 use native.Mathlib.Nat.{zero-add, suc-add}
 use native.Mathlib.Omega.{arith}
 use mathlib.Core.Path.{_≡_, refl, sym, _∙_, ap, ap₂}
@@ -36,7 +36,8 @@ sets-right l m i j (v ∷ vs) e =
   where
     set-append-right : (l m : List ℕ) (i v : ℕ) → set (l ++ m) (length l + i) v ≡ l ++ set m i v
     set-append-right [] m i v = ap (λ (k : ℕ). set m k v) (zero-add i)
-    set-append-right (x ∷ l) m i v = ap (λ (k : ℕ). set (x ∷ (l ++ m)) k v) (suc-add (length l) i) ∙ ap {B = List ℕ} (λ r. x ∷ r) (set-append-right l m i v)
+    set-append-right (x ∷ l) m i v = ap (λ (k : ℕ). set (x ∷ (l ++ m)) k v) (suc-add (length l) i)
+        ∙ ap {B = List ℕ} (λ r. x ∷ r) (set-append-right l m i v)
 
 module _ (table₀ : List ℕ) (at size number : ℕ) where
   pub bytes-start : sets table₀ at (bytesOf size number) ≡ sets table₀ (at + 0) (bytesOf (size - 0) number)

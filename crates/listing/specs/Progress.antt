@@ -7,13 +7,13 @@
 --     Follows                  the progress stands for the state that a step of the run makes of the one before
 use Prim.Native.Nat.{ℕ, _+_, _*_, _≤_, _<_}
 use mathlib.Core.Path.{_≡_}
-use mathlib.Core.Bool.{Bool, true, false, cond, not, _&&_, _||_}
-use mathlib.Core.List.{List, [], _∷_, _++_, reverse}
-use lib.ListN.{length, take, drop}
+use mathlib.Core.Bool.{false, cond, not, _||_}
+use mathlib.Core.List.{List, _∷_, reverse}
+use lib.ListN.{length, take}
 use Rattle.basics.specs.Folds.{oneIf}
 use Rattle.records.specs.Layout.{recordBytes, plusSum}
 use Rattle.description.specs.Symbols.{symbolSum, isIn}
-use Rattle.description.specs.Listing.{recordsOf, putInto, emptyGroup}
+use Rattle.description.specs.Listing.{maxWires, recordsOf, putInto, emptyGroup}
 use Rattle.description.specs.Run.{Around, State, placed, symbolItem, newestOuter}
 use Rattle.description.specs.declared.Symbol.{Symbol}
 use Rattle.description.specs.declared.Symbol.the-variants.{Product, ShareA, ShareB, Mask}
@@ -27,10 +27,6 @@ Small (Product i j) = (i < 8) × (j < 8)
 Small (ShareA i) = i < 8
 Small (ShareB j) = j < 8
 Small (Mask k) = k < 64
-
--- the most wires of a table
-abbrev pub maxWires : ℕ
-maxWires = 512
 
 pub record Held (table : List ℕ) (n : ℕ) (ws : List Listed) : Type 0 where
   pub count : n ≡ length ws

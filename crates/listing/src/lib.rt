@@ -214,12 +214,12 @@ pub fn take_symbol(table: &mut [u8], progress: Progress, symbol: Symbol) -> Prog
         place: at,
         symbol: symbol,
     };
-    let next = use_symbol(table, progress, known);
     let item = Item {
         sum: symbol_sum(symbol),
         from: at,
         end: at + symbol_length(symbol),
     };
+    let next = use_symbol(table, progress, known);
     put_item(table, next, item)
 }
 

@@ -5,13 +5,12 @@
 use Prim.Native.Nat.{ℕ, _+_, _≤_, _<_}
 use native.Mathlib.Omega.{arith}
 use mathlib.Core.Path.{_≡_, refl, sym, _∙_, ap, ap₂, subst}
-use mathlib.Core.Bool.{Bool, true, false}
-use mathlib.Core.List.{List, [], _∷_}
+use mathlib.Core.Bool.{true, false}
+use mathlib.Core.List.{List}
 use lib.ListN.{length, getD}
 use Rattle.description.specs.Bytes.{closing}
-use Rattle.description.specs.Run.{Around, State, refused, runAt, finish, lineStep, closed, within, put, groupItem}
+use Rattle.description.specs.Run.{Around, State, runAt, finish, lineStep, within, put, groupItem}
 use Rattle.description.specs.declared.Group.{Group}
-use Rattle.description.specs.declared.Item.{Item}
 use Rattle.description.specs.declared.Refusal.the-variants.{WrongParenthesis}
 use Rattle.description.proofs.Running.{run-end}
 use Rattle.description.proofs.Passing.{wrong-end, at-closing, nothing-inside}
@@ -77,7 +76,8 @@ module _ (text : List ℕ) (outer : Group) (from : ℕ) (table : List ℕ) (p : 
           goes =
               at-closing shares declared text (p .at) s inside (fewer stands less) (outside shares declared text outer from) around e f
               (ap (λ (g : Group). g .filled) (stands-group stands) ∙ full)
-              ∙ ap₂ (λ (g : Group) (k : ℕ). runAt shares declared text k (put (groupItem from (p .at) g) (within outer around s))) (stands-group stands)
+              ∙ ap₂ (λ (g : Group) (k : ℕ). runAt shares declared text k (put (groupItem from (p .at) g) (within outer around s)))
+              (stands-group stands)
               (sym (ap (λ (r : Progress). r .at) eq));
         };
   }

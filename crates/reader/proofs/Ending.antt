@@ -2,24 +2,22 @@
 --     Passed, skip-space, skip-other, skip-end      spaces passed over, one after the other
 --     over-stopped, over-went               a line too many; a line that is skipped after the last
 --     finish-closing, finish-line, finish-blank     a closing parenthesis with none open; the end of an output line, of one that is skipped
-use Prim.Native.Nat.{ℕ, _+_, _*_, _≤_, _<_}
+use Prim.Native.Nat.{ℕ, _+_, _≤_, _<_}
 use native.Mathlib.Omega.{arith}
-use mathlib.Core.Path.{_≡_, refl, sym, _∙_, ap, ap₂, subst}
+use mathlib.Core.Path.{_≡_, refl, sym, _∙_, ap, subst}
 use mathlib.Core.Bool.{Bool, true, false, cond, not, true≢false}
-use mathlib.Core.List.{List, [], _∷_}
-use borrow.Author.Tests.{ltb-true, ltb-false, lt-ltb, le-ltb, eq-eqb, ne-eqb, eqb-true}
+use mathlib.Core.List.{List, []}
+use borrow.Author.Tests.{ltb-true, ltb-false, eq-eqb, ne-eqb, eqb-true}
 use lib.Dec.{eqb, ltb}
 use lib.ListN.{length, drop, getD, drop-of-length-le}
 use Rattle.description.specs.Bytes.{space, lineEnd, closing, ended}
-use Rattle.description.specs.Run.{State, go, start, done, refused, runAt, finish, lineStep, lineDone, maxDepth}
-use Rattle.description.specs.declared.Refusal.{Refusal}
+use Rattle.description.specs.Run.{State, go, refused, runAt, finish, lineStep, lineDone}
 use Rattle.description.specs.declared.Refusal.the-variants.{WrongParenthesis, WrongLineCount}
 use Rattle.description.proofs.Running.{drop-byte, run-end}
 use Rattle.description.proofs.Passing.{at-space, at-line-end, at-over, not-open}
 use Rattle.listing.specs.declared.Progress.{Progress}
-use Rattle.listing.specs.Progress.{Stands, Held, lineProgress, Follows}
-use Rattle.reader.specs.Going.{Within, Ends, Reached, Skips, LineWent, LineReads, AllRead, LinesRead, GroupWent, Stops, nextLine, startProgress}
-use Rattle.reader.specs.declared.groups.Answer.{Answer}
+use Rattle.listing.specs.Progress.{Stands, lineProgress, Follows}
+use Rattle.reader.specs.Going.{Within, Skips, LineWent, LineReads, nextLine}
 use Rattle.reader.specs.declared.groups.Answer.the-variants.{Went, Stopped}
 use Rattle.reader.proofs.Reaching.{stands-lines, fewer, once}
 use Rattle.reader.proofs.Closing.{stands-group}

@@ -3,11 +3,11 @@
 --     symbol-byte                      a byte that begins an item and is no bar and no parenthesis does not part
 --     entered-within                   the progress past an opening parenthesis
 --     inside-stopped, inside-closed    the group inside stops the run; it ends, and is closed or not
-use Prim.Native.Nat.{ℕ, suc, _+_, _-_, _≤_, _<_}
+use Prim.Native.Nat.{ℕ, _+_, _-_, _≤_, _<_}
 use native.Mathlib.Omega.{arith}
-use mathlib.Core.Path.{_≡_, refl, sym, _∙_, ap, ap₂, subst}
-use mathlib.Core.Bool.{Bool, true, false, _||_}
-use mathlib.Core.List.{List, [], _∷_}
+use mathlib.Core.Path.{_≡_, _∙_, ap, ap₂}
+use mathlib.Core.Bool.{Bool, false, _||_}
+use mathlib.Core.List.{List, _∷_}
 use borrow.Author.Tests.{eq-eqb, ne-eqb}
 use lib.Dec.{eqb}
 use lib.ListN.{length, getD}
@@ -19,7 +19,7 @@ use Rattle.description.specs.declared.Refusal.the-variants.{Bar, NestedTooDeep}
 use Rattle.description.proofs.Passing.{at-bar, at-opening, too-deep}
 use Rattle.listing.specs.declared.Progress.{Progress}
 use Rattle.listing.specs.Progress.{Stands}
-use Rattle.reader.specs.Going.{Within, ItemByte, entered, Reached, ItemReads, GroupWent, Stops, CloseReads, outside}
+use Rattle.reader.specs.Going.{Within, ItemByte, entered, ItemReads, GroupWent, Stops, CloseReads, outside}
 use Rattle.reader.specs.declared.groups.Answer.{Answer}
 use Rattle.reader.specs.declared.groups.Answer.the-variants.{Went, Stopped}
 use Rattle.reader.proofs.Reaching.{fewer}
@@ -43,7 +43,8 @@ entered-within size p w inside = record {
   small = w .small;
 }
 
-module _ (shares declared : ℕ) (text : List ℕ) (room : ℕ) (table : List ℕ) (p : Progress) (inside : p .at < length text) (less : p .lines < shares) where
+module _ (shares declared : ℕ) (text : List ℕ) (room : ℕ) (table : List ℕ) (p : Progress) (inside : p .at < length text)
+    (less : p .lines < shares) where
   pub item-bar : getD text (p .at) 0 ≡ bar → Stops shares declared text room table p Bar (p .at)
   unfolding Stops
   item-bar e s stands deep = at-bar shares declared text (p .at) s inside (fewer stands less) e

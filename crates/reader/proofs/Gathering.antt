@@ -16,7 +16,8 @@ use Rattle.listing.specs.declared.Progress.{Progress}
 use Rattle.listing.specs.Progress.{Stands}
 use Rattle.reader.specs.Going.{Within, Ends, Reached, ItemWent, GroupWent, Stops}
 
-pub record Gone (shares declared : ℕ) (text : List ℕ) (room : ℕ) (table₀ : List ℕ) (p : Progress) (table : List ℕ) (q : Progress) (at : ℕ) : Type 0 where
+pub record Gone (shares declared : ℕ) (text : List ℕ) (room : ℕ) (table₀ : List ℕ) (p : Progress) (table : List ℕ) (q : Progress)
+    (at : ℕ) : Type 0 where
   pub place : at ≡ q .at
   pub within : Within (length text) q
   pub same-lines : q .lines ≡ p .lines

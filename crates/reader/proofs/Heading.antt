@@ -3,28 +3,25 @@
 --     second-line, second-wrong, second-declared     where the second line starts; it is wrong; it declares masks
 --     second-inside, masks-inside           what the two header lines give lies within the limits
 --     text-long, first-wrong, first-given   a text too long; a wrong first line; one that gives an order
-use Prim.Native.Nat.{ℕ, _+_, _*_, _-_, _≤_, _<_}
+use Prim.Native.Nat.{ℕ, _+_, _≤_, _<_}
 use native.Mathlib.Omega.{arith}
 use mathlib.Core.Path.{_≡_, refl, sym, _∙_, ap, subst}
-use mathlib.Core.Bool.{Bool, true, false, cond, _&&_}
-use mathlib.Core.List.{List, [], _∷_, reverse}
+use mathlib.Core.Bool.{Bool, true, false, cond}
+use mathlib.Core.List.{List, [], reverse}
 use borrow.Author.Tests.{ltb-true, ltb-false, lt-ltb, le-ltb}
-use lib.Dec.{ltb, leb}
+use lib.Dec.{ltb}
 use lib.ListN.{length, drop, drop-of-length-le, length-reverse}
 use lib.Seq.{drop-length}
-use Rattle.basics.proofs.Tests.{and-left, and-right}
-use Rattle.description.specs.Bytes.{orderWord, ended, same}
-use Rattle.description.specs.Header.{orderDigit, orderLine, masksLine}
-use Rattle.description.specs.Run.{Outcome, Reading, refused, turnedDown, start, runAt, listed, secondLine, afterMasks, afterOrder, reading, maxText}
+use Rattle.description.specs.Header.{orderLine, masksLine}
+use Rattle.description.specs.Run.{Reading, refused, turnedDown, start, runAt, listed, secondLine, afterMasks, afterOrder, reading, maxText}
 use Rattle.description.specs.declared.Masks.{Masks}
 use Rattle.description.specs.declared.OrderLine.{OrderLine}
 use Rattle.description.specs.declared.MasksLine.{MasksLine}
 use Rattle.description.specs.declared.Refusal.{Refusal}
 use Rattle.description.specs.declared.Refusal.the-variants.{TextTooLong, WrongOrderLine, WrongMasksLine}
-use Rattle.description.proofs.HeaderLines.{HeaderRead, header-spelled}
+use Rattle.description.proofs.HeaderLines.{header-spelled}
 use Rattle.listing.specs.declared.Progress.{Progress}
-use Rattle.reader.specs.Answers.{Scratched, OutcomeRead, LinesListed, SecondReads, ScratchReads}
-use Rattle.reader.specs.Going.{AllRead}
+use Rattle.reader.specs.Going.{AllRead, OutcomeRead, LinesListed, SecondReads, ScratchReads}
 use Rattle.reader.specs.declared.ReadAnswer.{ReadAnswer}
 
 module _ (text : List ℕ) (order : ℕ) (m : Masks) where

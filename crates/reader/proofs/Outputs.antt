@@ -7,7 +7,7 @@ use Prim.Native.Nat.{ℕ, _+_, _≤_, _<_}
 use native.Mathlib.Omega.{arith}
 use mathlib.Core.Path.{_≡_, refl, sym, _∙_, ap, subst}
 use mathlib.Core.Bool.{Bool, true, false, cond}
-use mathlib.Core.List.{List, [], _∷_}
+use mathlib.Core.List.{List, []}
 use borrow.Author.Tests.{ltb-true, ltb-false, lt-ltb, le-ltb}
 use lib.Dec.{ltb}
 use lib.ListN.{length}
@@ -16,7 +16,6 @@ use Rattle.description.specs.declared.Refusal.{Refusal}
 use Rattle.description.specs.declared.Refusal.the-variants.{WrongLineCount}
 use Rattle.description.proofs.Running.{run-end}
 use Rattle.listing.specs.declared.Progress.{Progress}
-use Rattle.listing.specs.Progress.{Stands}
 use Rattle.reader.specs.Going.{Within, Reached, LineWent, LineReads, AllRead, GroupWent, Stops, startProgress}
 use Rattle.reader.specs.declared.groups.Answer.{Answer}
 use Rattle.reader.specs.declared.groups.Answer.the-variants.{Went, Stopped}

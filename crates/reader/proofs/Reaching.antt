@@ -9,16 +9,16 @@
 use Prim.Native.Nat.{ℕ, suc, _+_, _-_, _≤_, _<_}
 use native.Mathlib.Omega.{arith}
 use mathlib.Core.Path.{_≡_, refl, sym, _∙_, ap, subst}
-use mathlib.Core.Bool.{Bool, true, false, cond, not, _&&_, _||_}
+use mathlib.Core.Bool.{Bool, true, false, cond, not, _&&_}
 use mathlib.Core.List.{List, [], _∷_}
-use borrow.Author.Tests.{ltb-true, ltb-false, leb-true, eqb-true, ne-eqb}
+use borrow.Author.Tests.{ltb-true, leb-true, eqb-true, ne-eqb}
 use lib.Dec.{eqb, ltb, leb}
 use lib.ListN.{length, take, drop, getD, length-drop}
 use lib.Seq.{take-at, length-take-le}
 use Rattle.basics.specs.Folds.{oneIf}
 use Rattle.basics.proofs.Tests.{and-left, and-right}
 use Rattle.records.specs.Words.{bit}
-use Rattle.description.specs.Bytes.{letterS, letterA, letterB, digit, parts, word}
+use Rattle.description.specs.Bytes.{letterS, letterA, letterB, parts, word}
 use Rattle.description.specs.Symbols.{isIn, nameLength, maskAt, shareDigit, productRead, shareRead, namedRead, symbolRead, symbolLength}
 use Rattle.records.specs.Layout.{plusSum}
 use Rattle.description.specs.Listing.{putInto}
@@ -39,7 +39,7 @@ use Rattle.description.proofs.Following.{symbol-long}
 use Rattle.description.proofs.Passing.{at-symbol, no-such, not-declared}
 use Rattle.listing.specs.declared.Progress.{Progress}
 use Rattle.listing.specs.Progress.{Small, Stands, tookProgress, Follows}
-use Rattle.reader.specs.Going.{Within, Reached, ItemWent, Stops}
+use Rattle.reader.specs.Going.{Within, ItemWent, Stops}
 
 pub stands-lines : {table : List ℕ} {p : Progress} {s : State} → Stands table p s → s .lines ≡ p .lines
 stands-lines h = ap (λ (t : State). t .lines) (h .state)
@@ -69,7 +69,11 @@ module _ (n : ℕ) (few : n ≤ 8) where
       go true t e =
           let f : Product (i - 48) (j - 48) ≡ s = cc in (
             ap symbolLength f,
-            subst Small f (low-digit n i few (and-left (shareDigit n i) (shareDigit n j) t), low-digit n j few (and-right (shareDigit n i) (shareDigit n j) t)),
+            subst Small f (
+              low-digit n i few (and-left (shareDigit n i) (shareDigit n j) t),
+              low-digit n j few
+                  (and-right (shareDigit n i) (shareDigit n j) t),
+            ),
           )
       go false t e = no-symbol e
   known-product c (i ∷ j ∷ k ∷ l) s e = no-symbol e
@@ -124,7 +128,8 @@ symbol-known n declared (c ∷ w) s few e = product (eqb c letterS) e
 
     product : (b : Bool)
         → cond b (productRead n w)
-        (cond (eqb c letterA) (shareRead ShareA n w) (cond (eqb c letterB) (shareRead ShareB n w) (namedRead declared (length (c ∷ w)) (maskAt (c ∷ w)))))
+        (cond (eqb c letterA) (shareRead ShareA n w)
+        (cond (eqb c letterB) (shareRead ShareB n w) (namedRead declared (length (c ∷ w)) (maskAt (c ∷ w)))))
         ≡ Known s
         → (length (c ∷ w) ≡ symbolLength s) × Small s
     product true e = known-product n few c w s e
@@ -164,7 +169,8 @@ put-begun g item n h k = go (g .filled)
 -- ---- the answers to a symbol
 
 module _ (shares declared : ℕ) (text table : List ℕ) (p : Progress) (few : shares ≤ 8) (w : Within (length text) p) (less : p .at < length text)
-    (fewer-lines : p .lines < shares) (joined : parts (getD text (p .at) 0) ≡ false) (size : ℕ) (sized : size ≡ length (word (drop (p .at) text))) where
+    (fewer-lines : p .lines < shares) (joined : parts (getD text (p .at) 0) ≡ false) (size : ℕ)
+    (sized : size ≡ length (word (drop (p .at) text))) where
   -- the part of the text that is read
   abbrev part : List ℕ
   part = take (p .at + size - p .at) (drop (p .at) text)

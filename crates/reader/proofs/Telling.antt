@@ -9,10 +9,10 @@ use native.Mathlib.Nat.{mul-comm, mul-mod-left}
 use native.Mathlib.Omega.{arith}
 use mathlib.Core.Path.{_≡_, refl, sym, _∙_, ap, ap₂, subst}
 use mathlib.Core.Bool.{Bool, true, false, cond, _||_}
-use mathlib.Core.List.{List, [], _∷_, _++_}
+use mathlib.Core.List.{List, [], _++_}
 use borrow.Author.Tests.{ltb-false, lt-ltb, le-ltb}
 use lib.Dec.{ltb}
-use lib.ListN.{length, take, drop, length-append, length-drop}
+use lib.ListN.{length, take, drop}
 use lib.Seq.{take-at}
 use Rattle.basics.specs.Told.{values, refusal}
 use Rattle.basics.proofs.Telling.{values-refusal}
@@ -20,7 +20,7 @@ use Rattle.basics.proofs.Tests.{or-left, or-right, or-none}
 use Rattle.records.specs.Layout.{recordBytes}
 use Rattle.table.specs.Answers.{tableCheck}
 use Rattle.description.specs.Listing.{recordsOf}
-use Rattle.description.specs.Grammar.{Description, Spells, Limits, wiresOf, maskCount}
+use Rattle.description.specs.Grammar.{Description, Spells, wiresOf, maskCount}
 use Rattle.description.specs.Run.{Reading, read, turnedDown, reading, refusalNumber}
 use Rattle.description.specs.declared.Listed.{Listed}
 use Rattle.description.specs.declared.Refusal.{Refusal}
@@ -28,7 +28,8 @@ use Rattle.description.specs.declared.Refusal.the-variants.{TooManyWires}
 use Rattle.description.proofs.Encoding.{length-records, record-count}
 use Rattle.description.proofs.Exactly.{spelled-read, read-spelled, spelled-limits}
 use Rattle.description.proofs.Tables.{table-passes, parts-within}
-use Rattle.reader.specs.Answers.{ReadTold, ReadLent, gives, refused, readTold, tooLarge, lentReading, readText, partCheck, Scratched}
+use Rattle.reader.specs.Answers.{ReadLent, gives, refused, readTold, tooLarge, lentReading, readText, partCheck}
+use Rattle.reader.specs.Going.{Scratched}
 use Rattle.reader.specs.Reads.{Readable, Given, ReadsGrammar}
 use Rattle.reader.proofs.Parts.{part-exactly}
 use Rattle.reader.specs.declared.ReadAnswer.{ReadAnswer}

@@ -5,21 +5,28 @@
 --     ItemByte, Ends    a byte that begins an item; the places where a group ends
 --     Skips             spaces are passed over
 --     ItemReads, GroupReads, CloseReads, LineReads, LinesRead      what the answer of each part says
+--     Scratched, OutcomeRead, LinesListed, SecondReads, ScratchReads     what reading into a table of the code's own has found, from the output
+--                       lines, from the second line, from the start
 --     entered, nextLine, startProgress      the progress past an opening parenthesis, past a line's end, before the output lines
-use Prim.Native.Nat.{ℕ, _+_, _≤_, _<_}
+use Prim.Native.Nat.{ℕ, _+_, _*_, _≤_, _<_}
 use mathlib.Core.Path.{_≡_}
 use mathlib.Core.Bool.{false, cond}
 use mathlib.Core.List.{List, [], _∷_}
 use lib.Dec.{ltb}
-use lib.ListN.{length, getD}
-use Rattle.records.specs.Layout.{noSum}
+use lib.ListN.{length, take, drop, getD}
+use Rattle.records.specs.Layout.{recordBytes, noSum}
 use Rattle.description.specs.Bytes.{space, lineEnd, closing}
-use Rattle.description.specs.Listing.{emptyGroup}
+use Rattle.description.specs.Listing.{maxWires, recordsOf, emptyGroup}
+use Rattle.description.specs.Header.{masksLine}
 use Rattle.description.specs.Run.{Around, State, start, done, refused, runAt, maxText, maxDepth}
+use Rattle.description.specs.Run.{Reading, read, turnedDown, listed, afterMasks, reading}
 use Rattle.description.specs.declared.Group.{Group}
+use Rattle.description.specs.declared.Listed.{Listed}
+use Rattle.description.specs.declared.Masks.{Masks}
 use Rattle.description.specs.declared.Refusal.{Refusal}
 use Rattle.listing.specs.declared.Progress.{Progress}
 use Rattle.listing.specs.Progress.{Small, Stands}
+use Rattle.reader.specs.declared.ReadAnswer.{ReadAnswer}
 use Rattle.reader.specs.declared.groups.Answer.{Answer}
 use Rattle.reader.specs.declared.groups.Answer.the-variants.{Went, Stopped}
 
@@ -163,3 +170,27 @@ module _ (shares declared : ℕ) (text : List ℕ) where
   abbrev pub LinesRead : ℕ → List ℕ → Answer → Type 0
   LinesRead from table (Went q) = AllRead from table q
   LinesRead from table (Stopped why offset) = runAt shares declared text from start ≡ refused why offset
+
+-- ---- reading into a table of the code's own
+
+-- the wires that were read, and their records as far as 512 of them
+pub record Scratched (outcome : Reading) (scratch : List ℕ) (order shares masks wires : ℕ) : Type 0 where
+  pub listed-wires : List Listed
+  pub reads : outcome ≡ read order masks listed-wires
+  pub same-shares : shares ≡ order + 1
+  pub few : wires ≤ 8192
+  pub count : wires ≡ length listed-wires
+  pub records : wires ≤ maxWires → take (recordBytes * wires) scratch ≡ recordsOf listed-wires
+
+abbrev pub OutcomeRead : Reading → List ℕ → ReadAnswer → Type 0
+OutcomeRead outcome scratch (ReadAnswer.Read order shares masks wires) = Scratched outcome scratch order shares masks wires
+OutcomeRead outcome scratch (ReadAnswer.Refused why offset) = outcome ≡ turnedDown why offset
+
+abbrev pub LinesListed : List ℕ → ℕ → Masks → List ℕ → ReadAnswer → Type 0
+LinesListed text order m = OutcomeRead (listed order (m .count) (runAt (order + 1) (m .declared) text (m .end) start))
+
+abbrev pub SecondReads : List ℕ → ℕ → List ℕ → ReadAnswer → Type 0
+SecondReads text order = OutcomeRead (afterMasks text order (masksLine 10 (drop 10 text)))
+
+abbrev pub ScratchReads : List ℕ → List ℕ → ReadAnswer → Type 0
+ScratchReads text = OutcomeRead (reading text)

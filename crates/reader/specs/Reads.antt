@@ -10,10 +10,10 @@ use lib.ListN.{length, take}
 use Rattle.basics.specs.Told.{values, refusal}
 use Rattle.records.specs.Layout.{recordBytes}
 use Rattle.table.specs.Answers.{tableCheck}
-use Rattle.description.specs.Listing.{recordsOf}
+use Rattle.description.specs.Listing.{maxWires, recordsOf}
 use Rattle.description.specs.Grammar.{Description, Spells, Limits, wiresOf, maskCount}
 use Rattle.description.specs.declared.Refusal.{Refusal}
-use Rattle.reader.specs.Answers.{maxWires, partCheck}
+use Rattle.reader.specs.Answers.{partCheck}
 use Rattle.reader.specs.declared.ReadAnswer.{ReadAnswer}
 
 pub record Readable (text : List ℕ) (room : ℕ) : Type 0 where

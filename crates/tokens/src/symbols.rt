@@ -2,7 +2,7 @@
 ghost use mathlib.Core.Path.{_≡_};
 ghost use mathlib.Core.Bool.{true};
 ghost use Prim.Native.Nat.{_≤_, _<_, _+_};
-ghost use lib.ListN.{length, getD};
+ghost use lib.ListN.{length};
 ghost use Rattle.description.specs.Symbols.{maskAt, shareDigit, namedRead, symbolRead};
 ghost use Rattle.tokens.specs.Digits.{isProduct, isShare};
 use super::bytes::digit_value;

@@ -19,7 +19,9 @@ same-length c = search needs
 
 returns : tie.Need-returns
 returns c =
-    line-added (c .before .before .before .before .before .before .before .args .table .now) (c .before .before .before .before .before .before .before .args .progress) (c .before .before .make-outer .last .0) (c .before .before .before .before .before .empty-group .result) (c .before .before .before .before .if1 .taken)
+    line-added (c .before .before .before .before .before .before .before .args .table .now)
+    (c .before .before .before .before .before .before .before .args .progress) (c .before .before .make-outer .last .0)
+    (c .before .before .before .before .before .empty-group .result) (c .before .before .before .before .if1 .taken)
     (c .before .before .before .before .before .empty-group .ensures) (c .before .before .make-outer .ensures)
 
 symbol-wire-requires : tie.Need-symbol-wire-requires
@@ -36,8 +38,13 @@ same-length-2 c = search needs
 
 returns-2 : tie.Need-returns-2
 returns-2 c =
-    line-single (c .before .before .before .before .before .before .before .before .before .before .args .table .now) (c .before .before .before .before .before .before .before .before .before .before .args .progress) (c .before .before .before .list-wire .last .0) (c .before .before .before .before .before .before .before .before .empty-group .result) (c .before .before .before .before .before .symbol-wire .result)
-    (c .before .before .before .before .before .before .before .if1 .left) (c .before .before .before .before .before .before .before .before .empty-group .ensures) (c .before .before .before .before .before .symbol-wire .ensures) (c .before .before .before .list-wire .ensures)
+    line-single (c .before .before .before .before .before .before .before .before .before .before .args .table .now)
+    (c .before .before .before .before .before .before .before .before .before .before .args .progress)
+    (c .before .before .before .list-wire .last .0) (c .before .before .before .before .before .before .before .before .empty-group .result)
+    (c .before .before .before .before .before .symbol-wire .result)
+    (c .before .before .before .before .before .before .before .if1 .left)
+    (c .before .before .before .before .before .before .before .before .empty-group .ensures)
+    (c .before .before .before .before .before .symbol-wire .ensures) (c .before .before .before .list-wire .ensures)
 
 pub end-line-spec : {M : Type 1} → statement M
 end-line-spec =

@@ -12,7 +12,8 @@ same-length : tie.Need-same-length
 same-length c = search needs
 
 returns : tie.Need-returns
-returns c = lists-record _ _ _ _ (c .before .before .before .before .if1 .taken) (c .before .before .before .before .before .before .pre) (c .before .before .write-record .ensures)
+returns c = lists-record _ _ _ _ (c .before .before .before .before .if1 .taken) (c .before .before .before .before .before .before .pre)
+    (c .before .before .write-record .ensures)
 
 returns-2 : tie.Need-returns-2
 returns-2 c = lists-full _ _ _ (c .if1 .left)

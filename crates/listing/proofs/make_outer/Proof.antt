@@ -30,7 +30,8 @@ same-length : tie.Need-same-length
 same-length c = search needs
 
 returns-2 : tie.Need-returns-2
-returns-2 c = outer-newest _ _ _ _ _ (c .before .before .before .before .before .before .before .before .before .if1 .left) (c .before .before .before .before .before .before .write-number .ensures) (c .before .before .write-number2 .ensures)
+returns-2 c = outer-newest _ _ _ _ _ (c .before .before .before .before .before .before .before .before .before .if1 .left)
+    (c .before .before .before .before .before .before .write-number .ensures) (c .before .before .write-number2 .ensures)
 
 returns-3 : tie.Need-returns-3
 returns-3 c = outer-full _ _ _ (c .if2 .left)

@@ -7,7 +7,8 @@ use Rattle.listing.proofs.put_item.Statement.{statement}
 use Rattle.listing.proofs.put_item.Tie as tie
 
 returns : tie.Need-returns
-returns c = put-first (c .before .before .before .before .before .args .table .now) (c .before .before .before .before .before .args .progress) (c .before .before .before .before .before .args .item) (not-true _ (c .if1 .taken))
+returns c = put-first (c .before .before .before .before .before .args .table .now) (c .before .before .before .before .before .args .progress)
+    (c .before .before .before .before .before .args .item) (not-true _ (c .if1 .taken))
 
 added-requires : tie.Need-added-requires
 added-requires c κs = search needs
@@ -19,15 +20,18 @@ list-wire-requires : tie.Need-list-wire-requires
 list-wire-requires c κs = search needs
 
 add-next : tie.Need-add-next
-add-next c = record { fits = omega (arith, c .before .before .before .before .before .before .before .before .before .before .before .before .before .pre .0 .1) }
+add-next c =
+    let start = c .before .before .before .before .before .before .before .before .before .before .before .before .before in record { fits = omega (arith, start .pre .0 .1) }
 
 same-length : tie.Need-same-length
 same-length c = search needs
 
 returns-2 : tie.Need-returns-2
 returns-2 c =
-    put-added (c .before .before .before .before .before .before .before .before .before .before .before .before .before .args .table .now) (c .before .before .before .before .before .before .before .before .before .before .before .before .before .args .progress) (c .before .before .before .before .before .before .before .before .before .before .before .before .before .args .item) (c .before .before .before .list-wire .last .0) (c .before .before .before .before .before .before .before .added .result)
-    (not-false _ (c .before .before .before .before .before .before .before .before .if1 .left)) (c .before .before .before .before .before .before .before .added .ensures .1) (c .before .before .before .list-wire .ensures)
+    let sum = c .before .before .before .before .before .before .before in
+    let a = sum .before .before .before .before .before .before .args in
+    put-added (a .table .now) (a .progress) (a .item) (c .before .before .before .list-wire .last .0) (sum .added .result) (not-false _ (sum .before .if1 .left))
+    (sum .added .ensures .1) (c .before .before .before .list-wire .ensures)
 
 pub put-item-spec : {M : Type 1} → statement M
 put-item-spec =

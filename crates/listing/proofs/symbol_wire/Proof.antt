@@ -18,7 +18,8 @@ symbol-length-requires c κs = search needs
 returns : tie.Need-returns
 returns c =
     let p = c .before .before .args .known in
-    ap₂ {C = Listed} (λ (s : Sum) (n : ℕ). record { sum = s; outer = false; line = 0; offset = p .place; length = n }) (c .before .symbol-sum .ensures)
+    ap₂ {C = Listed} (λ (s : Sum) (n : ℕ). record { sum = s; outer = false; line = 0; offset = p .place; length = n })
+    (c .before .symbol-sum .ensures)
     (c .symbol-length .ensures)
 
 pub symbol-wire-spec : {M : Type 1} → statement M

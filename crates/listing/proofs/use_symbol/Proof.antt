@@ -10,7 +10,8 @@ is-in-requires : tie.Need-is-in-requires
 is-in-requires c κs = search needs
 
 returns : tie.Need-returns
-returns c = used-again (c .before .before .before .before .args .table .now) (c .before .before .before .before .args .progress) (c .before .before .before .before .args .known) (sym (c .before .is-in .ensures) ∙ c .if1 .taken)
+returns c = used-again (c .before .before .before .before .args .table .now) (c .before .before .before .before .args .progress)
+    (c .before .before .before .before .args .known) (sym (c .before .is-in .ensures) ∙ c .if1 .taken)
 
 symbol-wire-requires : tie.Need-symbol-wire-requires
 symbol-wire-requires c κs = search needs
@@ -32,8 +33,14 @@ same-length c = search needs
 
 returns-2 : tie.Need-returns-2
 returns-2 c =
-    used-first (c .before .before .before .before .before .before .before .before .before .before .before .before .args .table .now) (c .before .before .before .before .before .before .before .before .before .before .before .before .args .progress) (c .before .before .before .before .before .before .before .before .before .before .before .before .args .known) (c .before .before .before .before .before .list-wire .last .0) (c .before .before .before .before .before .before .symbol-wire .result)
-    (c .before .symbol-sum .result) (c .added .result) (sym (c .before .before .before .before .before .before .before .before .before .is-in .ensures) ∙ c .before .before .before .before .before .before .before .before .if1 .left) (c .before .before .before .before .before .before .symbol-wire .ensures) (c .before .before .before .before .before .list-wire .ensures)
+    used-first (c .before .before .before .before .before .before .before .before .before .before .before .before .args .table .now)
+    (c .before .before .before .before .before .before .before .before .before .before .before .before .args .progress)
+    (c .before .before .before .before .before .before .before .before .before .before .before .before .args .known)
+    (c .before .before .before .before .before .list-wire .last .0) (c .before .before .before .before .before .before .symbol-wire .result)
+    (c .before .symbol-sum .result) (c .added .result)
+    (sym (c .before .before .before .before .before .before .before .before .before .is-in .ensures)
+    ∙ c .before .before .before .before .before .before .before .before .if1 .left)
+    (c .before .before .before .before .before .before .symbol-wire .ensures) (c .before .before .before .before .before .list-wire .ensures)
     (c .before .symbol-sum .ensures) (c .added .ensures .1)
 
 pub use-symbol-spec : {M : Type 1} → statement M

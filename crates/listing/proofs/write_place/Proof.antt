@@ -37,9 +37,14 @@ same-length c = search needs
 
 returns : tie.Need-returns
 returns c =
-    place-written (c .before .before .before .before .before .before .before .before .before .before .before .before .before .before .before .before .before .before .args .table .now) (c .before .before .before .before .before .before .before .before .before .before .before .before .before .before .write-number .last .0) (c .before .before .before .before .before .before .before .before .before .before .write-number2 .last .0) (c .before .before .before .before .before .before .write-number3 .last .0)
-    (c .before .before .write-number4 .last .0) (c .before .before .before .before .before .before .before .before .before .before .before .before .before .before .before .before .before .before .args .at) (c .before .before .before .before .before .before .before .before .before .before .before .before .before .before .before .before .before .before .args .wire) (c .before .before .before .before .before .before .before .before .before .before .before .before .before .before .before .one-if .result) (c .before .before .before .before .before .before .before .before .before .before .before .before .before .before .before .one-if .ensures) (c .before .before .before .before .before .before .before .before .before .before .before .before .before .before .write-number .ensures)
-    (c .before .before .before .before .before .before .before .before .before .before .write-number2 .ensures) (c .before .before .before .before .before .before .write-number3 .ensures) (c .before .before .write-number4 .ensures)
+    let four = c .before .before in
+    let three = four .before .before .before .before in
+    let two = three .before .before .before .before in
+    let one = two .before .before .before .before in
+    let a = one .before .before .before .before .args in
+    place-written (a .table .now) (one .write-number .last .0) (two .write-number2 .last .0) (three .write-number3 .last .0)
+    (four .write-number4 .last .0) (a .at) (a .wire) (one .before .one-if .result) (one .before .one-if .ensures) (one .write-number .ensures)
+    (two .write-number2 .ensures) (three .write-number3 .ensures) (four .write-number4 .ensures)
 
 pub write-place-spec : {M : Type 1} → statement M
 write-place-spec =

@@ -19,7 +19,10 @@ same-length c = search needs
 
 returns : tie.Need-returns
 returns c =
-    record-written (c .before .before .before .before .before .before .before .before .before .args .table .now) (c .before .before .before .before .before .before .write-sum .last .0) (c .before .before .write-place .last .0) _ (c .before .before .before .before .before .before .before .before .before .args .wire) (c .before .before .before .before .before .before .write-sum .ensures)
+    record-written (c .before .before .before .before .before .before .before .before .before .args .table .now)
+    (c .before .before .before .before .before .before .write-sum .last .0) (c .before .before .write-place .last .0) _
+    (c .before .before .before .before .before .before .before .before .before .args .wire)
+    (c .before .before .before .before .before .before .write-sum .ensures)
     (c .before .before .write-place .ensures)
 
 pub write-record-spec : {M : Type 1} → statement M

@@ -37,10 +37,15 @@ same-length c = search needs
 
 returns : tie.Need-returns
 returns c =
-    sum-written (c .before .before .before .before .before .before .before .before .before .before .before .before .before .before .before .before .before .before .before .args .table .now) (c .before .before .before .before .before .before .before .before .before .before .before .before .before .before .before .before .write-number .last .0) (c .before .before .before .before .before .before .before .before .before .before .before .before .write-number2 .last .0) (c .before .before .before .before .before .before .before .write-number3 .last .0)
-    (c .before .before .write-number4 .last .0) (c .before .before .before .before .before .before .before .before .before .before .before .before .before .before .before .before .before .before .before .args .at) (c .before .before .before .before .before .before .before .before .before .before .before .before .before .before .before .before .before .before .before .args .sum) (c .before .before .before .before .before .before .before .before .wide .result) (c .before .before .before .wide2 .result) (c .before .before .before .before .before .before .before .before .wide .ensures .0)
-    (c .before .before .before .wide2 .ensures .0) (c .before .before .before .before .before .before .before .before .before .before .before .before .before .before .before .before .write-number .ensures) (c .before .before .before .before .before .before .before .before .before .before .before .before .write-number2 .ensures) (c .before .before .before .before .before .before .before .write-number3 .ensures)
-    (c .before .before .write-number4 .ensures)
+    let four = c .before .before in
+    let three = four .before .before .before .before .before in
+    let two = three .before .before .before .before .before in
+    let one = two .before .before .before .before in
+    let a = one .before .before .before .args in
+    sum-written (a .table .now) (one .write-number .last .0) (two .write-number2 .last .0) (three .write-number3 .last .0)
+    (four .write-number4 .last .0) (a .at) (a .sum) (three .before .wide .result) (four .before .wide2 .result) (three .before .wide .ensures .0)
+    (four .before .wide2 .ensures .0) (one .write-number .ensures) (two .write-number2 .ensures) (three .write-number3 .ensures)
+    (four .write-number4 .ensures)
 
 pub write-sum-spec : {M : Type 1} → statement M
 write-sum-spec =

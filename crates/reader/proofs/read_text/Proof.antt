@@ -1,7 +1,7 @@
 -- `reader::read_text` meets its contract: what was read into the code's own table is copied where there is room, and nothing else is written.
 -- Assumes nothing.
 use mathlib.Core.Path.{subst}
-use Rattle.reader.specs.Answers.{ScratchReads}
+use Rattle.reader.specs.Going.{ScratchReads}
 use Rattle.reader.specs.declared.ReadAnswer.{ReadAnswer}
 use Rattle.reader.proofs.Telling.{read-refused, read-many, read-short, read-copied, promised}
 use borrow.Author.Needs.{needs}
@@ -25,7 +25,8 @@ returns c =
     let a = c .before .before .before .before .before .before .before .before .before .args in
     promised (a .text .now) (a .table .now) _ _
     (read-many (a .text .now) (a .table .now) (c .before .before .before .before .before .read-scratch .last .1 .0) _ _ _ _
-    (subst (λ (r : ReadAnswer). ScratchReads (a .text .now) (c .before .before .before .before .before .read-scratch .last .1 .0) r) (c .before .before .read2 .given .1) (c .before .before .before .before .before .read-scratch .ensures)) (c .if1 .taken))
+    (subst (λ (r : ReadAnswer). ScratchReads (a .text .now) (c .before .before .before .before .before .read-scratch .last .1 .0) r)
+    (c .before .before .read2 .given .1) (c .before .before .before .before .before .read-scratch .ensures)) (c .if1 .taken))
 
 mul-if2 : tie.Need-mul-if2
 mul-if2 c = search needs
@@ -35,7 +36,8 @@ returns-2 c =
     let a = c .before .before .before .before .before .before .before .before .before .before .args in
     promised (a .text .now) (a .table .now) _ _
     (read-short (a .text .now) (a .table .now) (c .before .before .before .before .before .before .read-scratch .last .1 .0) _ _ _ _
-    (subst (λ (r : ReadAnswer). ScratchReads (a .text .now) (c .before .before .before .before .before .before .read-scratch .last .1 .0) r) (c .before .before .before .read2 .given .1) (c .before .before .before .before .before .before .read-scratch .ensures)) (c .if2 .taken))
+    (subst (λ (r : ReadAnswer). ScratchReads (a .text .now) (c .before .before .before .before .before .before .read-scratch .last .1 .0) r)
+    (c .before .before .before .read2 .given .1) (c .before .before .before .before .before .before .read-scratch .ensures)) (c .if2 .taken))
 
 slice-aggregate-copy : tie.Need-slice-aggregate-copy
 slice-aggregate-copy c = search needs
@@ -50,7 +52,9 @@ returns-3 : tie.Need-returns-3
 returns-3 c =
     let a = c .before .before .before .before .before .before .before .before .args in
     promised (a .text .now) (a .table .now) _ _
-    (read-refused (a .text .now) (a .table .now) _ _ (subst (λ (r : ReadAnswer). ScratchReads (a .text .now) (c .before .before .before .before .read-scratch .last .1 .0) r) (c .before .read .given .1) (c .before .before .before .before .read-scratch .ensures)))
+    (read-refused (a .text .now) (a .table .now) _ _
+    (subst (λ (r : ReadAnswer). ScratchReads (a .text .now) (c .before .before .before .before .read-scratch .last .1 .0) r)
+    (c .before .read .given .1) (c .before .before .before .before .read-scratch .ensures)))
 
 same-length : tie.Need-same-length
 same-length c = search needs
@@ -59,8 +63,14 @@ returns-4 : tie.Need-returns-4
 returns-4 c =
     let a = c .before .before .before .before .before .before .before .before .before .before .before .before .before .before .before .args in
     promised (a .text .now) (a .table .now) _ _
-    (read-copied (a .text .now) (a .table .now) (c .before .before .before .before .before .before .before .before .before .before .before .read-scratch .last .1 .0) _ _ _ _
-    (subst (λ (r : ReadAnswer). ScratchReads (a .text .now) (c .before .before .before .before .before .before .before .before .before .before .before .read-scratch .last .1 .0) r) (c .before .before .before .before .before .before .before .before .read2 .given .1) (c .before .before .before .before .before .before .before .before .before .before .before .read-scratch .ensures)) (c .before .before .copy .last .0) (c .before .before .before .before .before .before .if1 .left) (c .before .before .before .before .before .if2 .left)
+    (read-copied (a .text .now) (a .table .now)
+    (c .before .before .before .before .before .before .before .before .before .before .before .read-scratch .last .1 .0) _ _ _ _
+    (subst (λ (r : ReadAnswer). ScratchReads (a .text .now)
+    (c .before .before .before .before .before .before .before .before .before .before .before .read-scratch .last .1 .0) r)
+    (c .before .before .before .before .before .before .before .before .read2 .given .1)
+    (c .before .before .before .before .before .before .before .before .before .before .before .read-scratch .ensures))
+    (c .before .before .copy .last .0) (c .before .before .before .before .before .before .if1 .left)
+    (c .before .before .before .before .before .if2 .left)
     (c .before .before .copy .ensures))
 
 pub read-text-spec : {M : Type 1} → statement M

@@ -80,7 +80,8 @@ group-returns : (t : ℕ) → group-lts.Need-returns (group-calls t) (group-at t
 group-returns t c =
     let a = c .before .before .before .before .before .before .args in
     let l = c .before .before .before .loop in
-    gone-ended (a .shares) (a .declared) (a .text .now) (a .room) (a .table .now) (a .progress) (l .table) (l .here) (l .at) (l .inv .0) (ends-closing _ _ (c .if1 .taken))
+    gone-ended (a .shares) (a .declared) (a .text .now) (a .room) (a .table .now) (a .progress) (l .table) (l .here) (l .at) (l .inv .0)
+    (ends-closing _ _ (c .if1 .taken))
 
 group-same-length-2 : (t : ℕ) → group-lts.Need-same-length-2 (group-calls t) (group-at t) group.Post group-Inv-loop group-μ-loop
 group-same-length-2 t c = search needs
@@ -89,7 +90,8 @@ group-returns-2 : (t : ℕ) → group-lts.Need-returns-2 (group-calls t) (group-
 group-returns-2 t c =
     let a = c .before .before .before .before .before .before .before .args in
     let l = c .before .before .before .before .loop in
-    gone-ended (a .shares) (a .declared) (a .text .now) (a .room) (a .table .now) (a .progress) (l .table) (l .here) (l .at) (l .inv .0) (ends-line _ _ (c .if2 .taken))
+    gone-ended (a .shares) (a .declared) (a .text .now) (a .room) (a .table .now) (a .progress) (l .table) (l .here) (l .at) (l .inv .0)
+    (ends-line _ _ (c .if2 .taken))
 
 group-add-here : (t : ℕ) → group-lts.Need-add-here (group-calls t) (group-at t) group.Post group-Inv-loop group-μ-loop
 group-add-here t c = search needs
@@ -101,12 +103,19 @@ group-item-requires t c κs =
     let l = c .before .before .before .before .before .before .loop in
     let g = l .inv .0 in
     let measure : 2 * (length (a .text .now) - a .progress .at) + 1 ≡ t = pre .0 in
-    let falling : 2 * (length (a .text .now) - l .here .at) < t = omega (arith, measure, g .place, g .forward, c .before .before .before .before .before .loop-test .taken) in (
+    let falling : 2 * (length (a .text .now) - l .here .at) < t = omega
+    (arith, measure, g .place, g .forward, c .before .before .before .before .before .loop-test .taken) in (
       falling,
       (
         record { text-size = pre .1 .0 .text-size; table-size = l .inv .1 ∙ pre .1 .0 .table-size; most = pre .1 .0 .most },
         (
-          (g .within, omega (arith, g .place, c .before .before .before .before .before .loop-test .taken), omega (arith, g .same-lines, pre .1 .1 .1), pre .1 .1 .2),
+          (
+            g .within,
+            omega (arith, g .place, c .before .before .before .before .before .loop-test .taken),
+            omega
+                (arith, g .same-lines, pre .1 .1 .1),
+            pre .1 .1 .2,
+          ),
           subst (λ (k : ℕ). ItemByte (getD (a .text .now) k 0)) (g .place)
               (record { no-space = c .before .if3 .left; no-end = c .before .before .if2 .left; no-closing = c .before .before .before .if1 .left }),
         ),
@@ -124,7 +133,8 @@ group-returns-3 t c =
     let a = c .before .before .before .before .before .before .before .before .before .before .before .before .before .before .before .args in
     let l = c .before .before .before .before .before .before .before .before .before .before .before .before .loop in
     gone-stopped (a .shares) (a .declared) (a .text .now) (a .room) (a .table .now) (a .progress) (l .table) (l .here) (l .at) (l .inv .0) _ _
-    (subst (λ (r : Answer). ItemReads (a .shares) (a .declared) (a .text .now) (a .room) (l .table) (l .here) (c .before .before .before .before .before .item .last .1 .0) r) (c .before .read .given .1)
+    (subst (λ (r : Answer). ItemReads (a .shares) (a .declared) (a .text .now) (a .room) (l .table) (l .here)
+    (c .before .before .before .before .before .item .last .1 .0) r) (c .before .read .given .1)
     (c .before .before .before .before .before .item .ensures))
 
 group-enum-known-read-2 : (t : ℕ) → group-lts.Need-enum-known-read-2 (group-calls t) (group-at t) group.Post group-Inv-loop group-μ-loop
@@ -136,27 +146,33 @@ group-loop-less t c = search needs
 group-loop-again : (t : ℕ) → group-lts.Need-loop-again (group-calls t) (group-at t) group.Post group-Inv-loop group-μ-loop
 group-loop-again t c =
     let a = c .before .before .before .before .before .before .before .before .args in
-    let l = c .before .before .before .before .before .loop in
-    (gone-space (a .shares) (a .declared) (a .text .now) (a .room) (a .table .now) (a .progress) (l .table) (l .here) (l .at) (l .inv .0) (c .before .before .before .before .loop-test .taken) (c .if3 .taken), l .inv .1)
+    let l = c .before .before .before .before .before .loop in (
+      gone-space (a .shares) (a .declared) (a .text .now) (a .room) (a .table .now) (a .progress) (l .table) (l .here) (l .at) (l .inv .0)
+          (c .before .before .before .before .loop-test .taken) (c .if3 .taken),
+      l .inv .1,
+    )
+
+-- what the item reader gave, where the reading goes on
+item-went : (t : ℕ) (c : group-lts.After-known-told2 (group-calls t) (group-at t) group.Post group-Inv-loop group-μ-loop)
+    → let l = c .before .before .before .before .before .before .before .before .before .before .before .before .loop in let a = c .before .before .before .before .before .before .before .before .before .before .before .before .before .before .before .args in
+    ItemWent (a .shares) (a .declared) (a .text .now) (a .room) (l .table) (l .here) (c .before .before .before .before .before .item .last .1 .0) (c .before .read2 .given .0 .0)
+item-went t c =
+    let l = c .before .before .before .before .before .before .before .before .before .before .before .before .loop in
+    let a = c .before .before .before .before .before .before .before .before .before .before .before .before .before .before .before .args in
+    subst (λ (r : Answer). ItemReads (a .shares) (a .declared) (a .text .now) (a .room) (l .table) (l .here) (c .before .before .before .before .before .item .last .1 .0) r)
+    (c .before .read2 .given .1) (c .before .before .before .before .before .item .ensures)
 
 group-loop-less-2 : (t : ℕ) → group-lts.Need-loop-less-2 (group-calls t) (group-at t) group.Post group-Inv-loop group-μ-loop
 group-loop-less-2 t c =
-    let a = c .before .before .before .before .before .before .before .before .before .before .before .before .before .before .before .args in
+    let inside = c .before .before .before .before .before .before .before .before .before .before .before .loop-test .taken in
     let l = c .before .before .before .before .before .before .before .before .before .before .before .before .loop in
-    let i : ItemWent (a .shares) (a .declared) (a .text .now) (a .room) (l .table) (l .here) (c .before .before .before .before .before .item .last .1 .0) (c .before .read2 .given .0 .0) =
-    subst (λ (r : Answer). ItemReads (a .shares) (a .declared) (a .text .now) (a .room) (l .table) (l .here) (c .before .before .before .before .before .item .last .1 .0) r) (c .before .read2 .given .1)
-    (c .before .before .before .before .before .item .ensures) in
-    omega (arith, i .forward, i .within .inside, l .inv .0 .place, c .before .before .before .before .before .before .before .before .before .before .before .loop-test .taken)
+    let i = item-went t c in omega (arith, i .forward, i .within .inside, l .inv .0 .place, inside)
 
 group-loop-again-2 : (t : ℕ) → group-lts.Need-loop-again-2 (group-calls t) (group-at t) group.Post group-Inv-loop group-μ-loop
 group-loop-again-2 t c =
+    let l = c .before .before .before .before .before .before .before .before .before .before .before .before .loop in
     let a = c .before .before .before .before .before .before .before .before .before .before .before .before .before .before .before .args in
-    let l = c .before .before .before .before .before .before .before .before .before .before .before .before .loop in (
-      gone-item (a .shares) (a .declared) (a .text .now) (a .room) (a .table .now) (a .progress) (l .table) (l .here) (l .at) (l .inv .0) _ _
-          (subst (λ (r : Answer). ItemReads (a .shares) (a .declared) (a .text .now) (a .room) (l .table) (l .here) (c .before .before .before .before .before .item .last .1 .0) r) (c .before .read2 .given .1)
-          (c .before .before .before .before .before .item .ensures)),
-      search needs,
-    )
+    (gone-item (a .shares) (a .declared) (a .text .now) (a .room) (a .table .now) (a .progress) (l .table) (l .here) (l .at) (l .inv .0) _ _ (item-went t c), search needs)
 
 group-same-length-4 : (t : ℕ) → group-lts.Need-same-length-4 (group-calls t) (group-at t) group.Post group-Inv-loop group-μ-loop
 group-same-length-4 t c = search needs
@@ -165,7 +181,8 @@ group-returns-4 : (t : ℕ) → group-lts.Need-returns-4 (group-calls t) (group-
 group-returns-4 t c =
     let a = c .before .before .before .before .args in
     let l = c .before .loop in
-    gone-ended (a .shares) (a .declared) (a .text .now) (a .room) (a .table .now) (a .progress) (l .table) (l .here) (l .at) (l .inv .0) (ends-text _ _ (c .loop-test .left))
+    gone-ended (a .shares) (a .declared) (a .text .now) (a .room) (a .table .now) (a .progress) (l .table) (l .here) (l .at) (l .inv .0)
+    (ends-text _ _ (c .loop-test .left))
 
 item-shared-slice-read-byte : (t : ℕ) → item-lts.Need-shared-slice-read-byte (item-calls t) (item-at t) item.Post
 item-shared-slice-read-byte t c = search needs
@@ -179,8 +196,14 @@ item-returns t c =
 item-symbol-item-requires : (t : ℕ) → item-lts.Need-symbol-item-requires (item-calls t) (item-at t) item.Post
 item-symbol-item-requires t c κs =
     let a = c .before .before .before .before .before .before .args in
-    let pre = c .before .before .before .before .before .before .pre in
-    (pre .1 .0, ((pre .1 .1 .0 .0, pre .1 .1 .0 .1, pre .1 .1 .0 .2), symbol-byte _ (pre .1 .1 .1) (c .before .before .if1 .left) (c .before .if2 .taken)))
+    let pre = c .before .before .before .before .before .before .pre in (
+      pre .1 .0,
+      (
+        (pre .1 .1 .0 .0, pre .1 .1 .0 .1, pre .1 .1 .0 .2),
+        symbol-byte _ (pre .1 .1 .1) (c .before .before .if1 .left)
+            (c .before .if2 .taken),
+      ),
+    )
 
 item-same-length : (t : ℕ) → item-lts.Need-same-length (item-calls t) (item-at t) item.Post
 item-same-length t c = search needs
@@ -192,7 +215,8 @@ item-returns-3 : (t : ℕ) → item-lts.Need-returns-3 (item-calls t) (item-at t
 item-returns-3 t c =
     let a = c .before .before .before .before .before .before .args in
     let pre = c .before .before .before .before .before .before .pre in
-    item-deep (a .shares) (a .declared) (a .text .now) (a .room) (a .table .now) (a .progress) (pre .1 .1 .0 .1) (pre .1 .1 .0 .2) (c .before .if2 .left) (c .if3 .taken)
+    item-deep (a .shares) (a .declared) (a .text .now) (a .room) (a .table .now) (a .progress) (pre .1 .1 .0 .1) (pre .1 .1 .0 .2)
+    (c .before .if2 .left) (c .if3 .taken)
 
 item-enter-requires : (t : ℕ) → item-lts.Need-enter-requires (item-calls t) (item-at t) item.Post
 item-enter-requires t c κs =
@@ -212,8 +236,18 @@ item-group-requires t c κs =
     let measure : 2 * (length (a .text .now) - a .progress .at) ≡ t = pre .0 in
     let place = ap (λ (p : Progress). p .at) e in
     let lines = ap (λ (p : Progress). p .lines) e in
-    let falling : 2 * (length (a .text .now) - c .enter .result .at) + 1 < t = omega (arith, measure, place, pre .1 .1 .0 .1) in
-    (falling, (pre .1 .0, (subst (Within (length (a .text .now))) (sym e) within, omega (arith, lines, pre .1 .1 .0 .2), omega (arith, pre .1 .1 .0 .3))))
+    let falling : 2 * (length (a .text .now) - c .enter .result .at) + 1 < t = omega (arith, measure, place, pre .1 .1 .0 .1) in (
+      falling,
+      (
+        pre .1 .0,
+        (
+          subst (Within (length (a .text .now))) (sym e) within,
+          omega (arith, lines, pre .1 .1 .0 .2),
+          omega
+              (arith, pre .1 .1 .0 .3),
+        ),
+      ),
+    )
 
 item-enum-known-inside : (t : ℕ) → item-lts.Need-enum-known-inside (item-calls t) (item-at t) item.Post
 item-enum-known-inside t c = search needs
@@ -221,17 +255,21 @@ item-enum-known-inside t c = search needs
 item-enum-known-inside-2 : (t : ℕ) → item-lts.Need-enum-known-inside-2 (item-calls t) (item-at t) item.Post
 item-enum-known-inside-2 t c = search needs
 
+-- what the group reader gave, where the group inside ends
+inside-went : (t : ℕ) (k : item-lts.After-known-told2 (item-calls t) (item-at t) item.Post)
+    → let a = k .before .before .before .before .before .before .before .before .before .before .before .before .before .before .args in
+    GroupWent (a .shares) (a .declared) (a .text .now) (a .room - 1) (a .table .now) (entered (a .progress)) (k .before .before .before .before .before .group .last .1 .0) (k .before .inside2 .given .0 .0)
+inside-went t k =
+    let g = k .before .before .before .before .before in
+    let a = k .before .before .before .before .before .before .before .before .before .before .before .before .before .before .args in
+    subst (λ (r : Answer). GroupReads (a .shares) (a .declared) (a .text .now) (a .room - 1) (a .table .now) (entered (a .progress)) (g .group .last .1 .0) r) (k .before .inside2 .given .1)
+    (subst (λ (p : Progress). GroupReads (a .shares) (a .declared) (a .text .now) (a .room - 1) (a .table .now) p (g .group .last .1 .0) (g .group .result)) (g .before .enter .ensures) (g .group .ensures))
+
 item-close-requires : (t : ℕ) → item-lts.Need-close-requires (item-calls t) (item-at t) item.Post
 item-close-requires t c κs =
-    let a = c .before .before .before .before .before .before .before .before .before .before .before .before .before .before .before .before .args in
-    let pre = c .before .before .before .before .before .before .before .before .before .before .before .before .before .before .before .before .pre in
-    let w : GroupWent (a .shares) (a .declared) (a .text .now) (a .room - 1) (a .table .now) (entered (a .progress)) (c .before .before .before .before .before .before .before .group .last .1 .0) (c .before .before .before .inside2 .given .0 .0) =
-    subst (λ (r : Answer). GroupReads (a .shares) (a .declared) (a .text .now) (a .room - 1) (a .table .now) (entered (a .progress)) (c .before .before .before .before .before .before .before .group .last .1 .0) r)
-    (c .before .before .before .inside2 .given .1)
-    (subst
-    (λ (p : Progress).
-    GroupReads (a .shares) (a .declared) (a .text .now) (a .room - 1) (a .table .now) p (c .before .before .before .before .before .before .before .group .last .1 .0) (c .before .before .before .before .before .before .before .group .result))
-    (c .before .before .before .before .before .before .before .before .enter .ensures) (c .before .before .before .before .before .before .before .group .ensures)) in (
+    let k = c .before .before in
+    let pre = k .before .before .before .before .before .before .before .before .before .before .before .before .before .before .pre in
+    let w = inside-went t k in (
       (pre .1 .0 .text-size, search needs),
       (w .within, w .ends, pre .1 .1 .0 .0 .begun, omega (arith, w .forward), omega (arith, w .same-lines, pre .1 .1 .0 .2, pre .1 .0 .most)),
     )
@@ -243,12 +281,16 @@ item-returns-4 : (t : ℕ) → item-lts.Need-returns-4 (item-calls t) (item-at t
 item-returns-4 t c =
     let a = c .before .before .before .before .before .before .before .before .before .before .before .before .before .before .args in
     let pre = c .before .before .before .before .before .before .before .before .before .before .before .before .before .before .pre in
-    inside-stopped (a .shares) (a .declared) (a .text .now) (a .room) (a .table .now) (a .progress) (pre .1 .1 .0 .1) (pre .1 .1 .0 .2) (c .before .before .before .before .before .before .before .before .before .if2 .left) (c .before .before .before .before .before .before .before .before .if3 .left) _ _
-    (subst (λ (r : Answer). GroupReads (a .shares) (a .declared) (a .text .now) (a .room - 1) (a .table .now) (entered (a .progress)) (c .before .before .before .before .before .group .last .1 .0) r)
+    inside-stopped (a .shares) (a .declared) (a .text .now) (a .room) (a .table .now) (a .progress) (pre .1 .1 .0 .1) (pre .1 .1 .0 .2)
+    (c .before .before .before .before .before .before .before .before .before .if2 .left)
+    (c .before .before .before .before .before .before .before .before .if3 .left) _ _
+    (subst (λ (r : Answer). GroupReads (a .shares) (a .declared) (a .text .now) (a .room - 1) (a .table .now) (entered (a .progress))
+    (c .before .before .before .before .before .group .last .1 .0) r)
     (c .before .inside .given .1)
     (subst
     (λ (p : Progress).
-    GroupReads (a .shares) (a .declared) (a .text .now) (a .room - 1) (a .table .now) p (c .before .before .before .before .before .group .last .1 .0) (c .before .before .before .before .before .group .result))
+    GroupReads (a .shares) (a .declared) (a .text .now) (a .room - 1) (a .table .now) p
+    (c .before .before .before .before .before .group .last .1 .0) (c .before .before .before .before .before .group .result))
     (c .before .before .before .before .before .before .enter .ensures) (c .before .before .before .before .before .group .ensures)))
 
 item-same-length-3 : (t : ℕ) → item-lts.Need-same-length-3 (item-calls t) (item-at t) item.Post
@@ -256,17 +298,13 @@ item-same-length-3 t c = search needs
 
 item-returns-5 : (t : ℕ) → item-lts.Need-returns-5 (item-calls t) (item-at t) item.Post
 item-returns-5 t c =
-    let a = c .before .before .before .before .before .before .before .before .before .before .before .before .before .before .before .before .before .before .before .args in
-    let pre = c .before .before .before .before .before .before .before .before .before .before .before .before .before .before .before .before .before .before .before .pre in
-    let w : GroupWent (a .shares) (a .declared) (a .text .now) (a .room - 1) (a .table .now) (entered (a .progress)) (c .before .before .before .before .before .before .before .before .before .before .group .last .1 .0) (c .before .before .before .before .before .before .inside2 .given .0 .0) =
-    subst (λ (r : Answer). GroupReads (a .shares) (a .declared) (a .text .now) (a .room - 1) (a .table .now) (entered (a .progress)) (c .before .before .before .before .before .before .before .before .before .before .group .last .1 .0) r)
-    (c .before .before .before .before .before .before .inside2 .given .1)
-    (subst
-    (λ (p : Progress).
-    GroupReads (a .shares) (a .declared) (a .text .now) (a .room - 1) (a .table .now) p (c .before .before .before .before .before .before .before .before .before .before .group .last .1 .0) (c .before .before .before .before .before .before .before .before .before .before .group .result))
-    (c .before .before .before .before .before .before .before .before .before .before .before .enter .ensures) (c .before .before .before .before .before .before .before .before .before .before .group .ensures)) in
-    inside-closed (a .shares) (a .declared) (a .text .now) (a .room) (a .table .now) (a .progress) (pre .1 .1 .0 .1) (pre .1 .1 .0 .2) (c .before .before .before .before .before .before .before .before .before .before .before .before .before .before .if2 .left) (c .before .before .before .before .before .before .before .before .before .before .before .before .before .if3 .left) (c .before .before .before .before .before .before .before .before .before .before .group .last .1 .0) (c .before .before .close .last .1 .0) _
-    (c .before .before .close .result) w
+    let k = c .before .before .before .before .before in
+    let e = k .before .before .before .before .before .before .before .before in
+    let a = k .before .before .before .before .before .before .before .before .before .before .before .before .before .before .args in
+    let pre = k .before .before .before .before .before .before .before .before .before .before .before .before .before .before .pre in
+    let w = inside-went t k in
+    inside-closed (a .shares) (a .declared) (a .text .now) (a .room) (a .table .now) (a .progress) (pre .1 .1 .0 .1) (pre .1 .1 .0 .2) (e .before .if2 .left) (e .if3 .left)
+    (k .before .before .before .before .before .group .last .1 .0) (c .before .before .close .last .1 .0) _ (c .before .before .close .result) w
     (c .before .before .close .ensures (a .shares) (a .declared) (omega (arith, w .same-lines, pre .1 .1 .0 .2)))
 
 pub +group+item-spec : {M : Type 1} → statement M

@@ -1,7 +1,6 @@
 -- `reader::groups::close` meets its contract: a closing parenthesis after an item, else the refusal at its place.
 -- Assumes nothing.
 use native.Mathlib.Omega.{arith}
-use mathlib.Core.Path.{_≡_}
 use Rattle.listing.proofs.Stepping.{not-true, not-false}
 use Rattle.reader.proofs.Closing.{close-at-end, close-at-line, close-empty, close-went}
 use borrow.Author.Needs.{needs}
@@ -15,10 +14,17 @@ shared-slice-read-if2 : tie.Need-shared-slice-read-if2
 shared-slice-read-if2 c = search needs
 
 returns-2 : tie.Need-returns-2
-returns-2 c = close-at-line _ _ _ _ _ (c .before .before .before .before .before .args .table .now) (omega (arith, c .before .before .if1 .left, c .before .before .before .before .before .pre .1 .0 .inside)) (c .if2 .taken) (c .before .before .before .before .before .pre .1 .1)
+returns-2 c =
+    let past = c .before .before in
+    let pre = past .before .before .before .pre in
+    close-at-line _ _ _ _ _ (past .before .before .before .args .table .now) (omega (arith, past .if1 .left, pre .1 .0 .inside)) (c .if2 .taken) (pre .1 .1)
 
 returns-3 : tie.Need-returns-3
-returns-3 c = close-empty _ _ _ _ _ (c .before .before .before .before .before .before .before .before .args .table .now) (omega (arith, c .before .before .before .before .before .if1 .left, c .before .before .before .before .before .before .before .before .pre .1 .0 .inside)) (c .before .before .before .if2 .left) (not-true _ (c .if3 .taken))
+returns-3 c =
+    let past = c .before .before .before .before .before in
+    let pre = past .before .before .before .pre in
+    close-empty _ _ _ _ _ (past .before .before .before .args .table .now) (omega (arith, past .if1 .left, pre .1 .0 .inside)) (c .before .before .before .if2 .left)
+    (not-true _ (c .if3 .taken))
 
 add-t11 : tie.Need-add-t11
 add-t11 c = search needs
@@ -31,9 +37,10 @@ same-length c = search needs
 
 returns-4 : tie.Need-returns-4
 returns-4 c =
-    let pre = c .before .before .before .before .before .before .before .before .before .before .before .before .before .pre .1 in
-    close-went _ _ _ _ _ _ _ (pre .0) (omega (arith, c .before .before .before .before .before .before .before .before .before .before .if1 .left, pre .0 .inside)) (c .before .before .before .before .before .before .before .before .if2 .left) (not-false _ (c .before .before .before .before .before .if3 .left)) (pre .2) (pre .3)
-    (c .before .before .put-item .ensures .0) (c .before .before .put-item .ensures .1)
+    let past = c .before .before .before .before .before .before .before .before .before .before in
+    let pre = past .before .before .before .pre .1 in
+    close-went _ _ _ _ _ _ _ (pre .0) (omega (arith, past .if1 .left, pre .0 .inside)) (c .before .before .before .before .before .before .before .before .if2 .left)
+    (not-false _ (c .before .before .before .before .before .if3 .left)) (pre .2) (pre .3) (c .before .before .put-item .ensures .0) (c .before .before .put-item .ensures .1)
 
 pub close-spec : {M : Type 1} → statement M
 close-spec =

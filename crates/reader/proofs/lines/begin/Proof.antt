@@ -1,6 +1,5 @@
 -- `reader::lines::begin` meets its contract: nothing has been read.
 -- Assumes nothing.
-use Prim.Native.Nat.{ℕ}
 use mathlib.Core.Bool.{false}
 use mathlib.Core.Path.{ap₂}
 use Rattle.records.specs.declared.sums.Sum.{Sum}

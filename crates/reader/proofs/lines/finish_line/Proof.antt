@@ -28,8 +28,10 @@ unfolding Ends
 returns-2 c =
     let pre = c .before .before .before .before .before .before .before .before .before .before .pre .1 in
     finish-line _ _ _ (pre .0)
-    (λ less. ⊎-elim (λ w. pre .1 less (w .2 .left)) (λ w. absurd (omega (arith, less, w .left))) (c .before .before .before .before .before .before .before .if1 .came)) (c .before .before .before .before .before .if3 .taken)
-    (c .before .before .before .end-line .last .0) _ _ (c .before .before .before .end-line .ensures .0) (c .before .before .before .end-line .ensures .1) (c .next-line .ensures)
+    (λ less. ⊎-elim (λ w. pre .1 less (w .2 .left)) (λ w. absurd (omega (arith, less, w .left)))
+    (c .before .before .before .before .before .before .before .if1 .came)) (c .before .before .before .before .before .if3 .taken)
+    (c .before .before .before .end-line .last .0) _ _ (c .before .before .before .end-line .ensures .0)
+    (c .before .before .before .end-line .ensures .1) (c .next-line .ensures)
 
 next-line-requires-2 : tie.Need-next-line-requires-2
 next-line-requires-2 c κs = search needs
@@ -39,7 +41,8 @@ unfolding Ends
 returns-3 c =
     let pre = c .before .before .before .before .before .before .pre .1 in
     finish-blank _ _ _ (pre .0)
-    (λ less. ⊎-elim (λ w. pre .1 less (w .2 .left)) (λ w. absurd (omega (arith, less, w .left))) (c .before .before .before .if1 .came)) (c .before .if3 .left) _
+    (λ less. ⊎-elim (λ w. pre .1 less (w .2 .left)) (λ w. absurd (omega (arith, less, w .left))) (c .before .before .before .if1 .came))
+    (c .before .if3 .left) _
     (c .next-line2 .ensures)
 
 pub finish-line-spec : {M : Type 1} → statement M

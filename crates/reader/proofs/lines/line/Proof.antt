@@ -3,7 +3,6 @@
 use native.Mathlib.Omega.{arith}
 use mathlib.Core.Path.{subst}
 use Prim.Native.Nat.{ℕ}
-use mathlib.Core.List.{List}
 use Rattle.reader.specs.Going.{GroupReads, GroupWent, LineReads}
 use Rattle.reader.specs.declared.groups.Answer.{Answer}
 use Rattle.reader.proofs.Outputs.{line-stopped, line-finished}
@@ -17,7 +16,8 @@ line-over-requires c κs = search needs
 returns : tie.Need-returns
 returns c =
     let a = c .before .before .before .before .before .args in
-    subst (λ (n : ℕ). LineReads n (a .declared) (a .text .now) (a .table .now) (a .progress) (a .table .now) (c .line-over .result)) (c .before .if1 .taken)
+    subst (λ (n : ℕ). LineReads n (a .declared) (a .text .now) (a .table .now) (a .progress) (a .table .now) (c .line-over .result))
+    (c .before .if1 .taken)
     (c .line-over .ensures (a .declared) (a .table .now))
 
 group-requires : tie.Need-group-requires
@@ -34,10 +34,19 @@ finish-line-requires : tie.Need-finish-line-requires
 finish-line-requires c κs =
     let a = c .before .before .before .before .before .before .before .before .before .before .before .before .args in
     let pre = c .before .before .before .before .before .before .before .before .before .before .before .before .pre in
-    let w : GroupWent (a .shares) (a .declared) (a .text .now) 16 (a .table .now) (a .progress) (c .before .before .before .before .before .before .group .last .1 .0) (c .before .before .read2 .given .0 .0) =
-    subst (λ (r : Answer). GroupReads (a .shares) (a .declared) (a .text .now) 16 (a .table .now) (a .progress) (c .before .before .before .before .before .before .group .last .1 .0) r)
-    (c .before .before .read2 .given .1) (c .before .before .before .before .before .before .group .ensures) in
-    ((pre .0 .text-size, search needs), (w .within, w .ends, omega (arith, w .same-lines, pre .1 .1, c .before .before .before .before .before .before .before .before .if1 .left, pre .0 .most)))
+    let w : GroupWent (a .shares) (a .declared) (a .text .now) 16 (a .table .now) (a .progress)
+    (c .before .before .before .before .before .before .group .last .1 .0) (c .before .before .read2 .given .0 .0) =
+    subst (λ (r : Answer). GroupReads (a .shares) (a .declared) (a .text .now) 16 (a .table .now) (a .progress)
+    (c .before .before .before .before .before .before .group .last .1 .0) r)
+    (c .before .before .read2 .given .1) (c .before .before .before .before .before .before .group .ensures) in (
+      (pre .0 .text-size, search needs),
+      (
+        w .within,
+        w .ends,
+        omega
+            (arith, w .same-lines, pre .1 .1, c .before .before .before .before .before .before .before .before .if1 .left, pre .0 .most),
+      ),
+    )
 
 same-length : tie.Need-same-length
 same-length c = search needs
@@ -45,8 +54,10 @@ same-length c = search needs
 returns-2 : tie.Need-returns-2
 returns-2 c =
     let a = c .before .before .before .before .before .before .before .before .before .before .before .args in
-    line-stopped (a .shares) (a .declared) (a .text .now) (a .table .now) (a .progress) (c .before .before .before .before .before .group .last .1 .0) _ _
-    (subst (λ (r : Answer). GroupReads (a .shares) (a .declared) (a .text .now) 16 (a .table .now) (a .progress) (c .before .before .before .before .before .group .last .1 .0) r)
+    line-stopped (a .shares) (a .declared) (a .text .now) (a .table .now) (a .progress)
+    (c .before .before .before .before .before .group .last .1 .0) _ _
+    (subst (λ (r : Answer). GroupReads (a .shares) (a .declared) (a .text .now) 16 (a .table .now) (a .progress)
+    (c .before .before .before .before .before .group .last .1 .0) r)
     (c .before .read .given .1) (c .before .before .before .before .before .group .ensures))
 
 same-length-2 : tie.Need-same-length-2
@@ -56,12 +67,18 @@ returns-3 : tie.Need-returns-3
 returns-3 c =
     let a = c .before .before .before .before .before .before .before .before .before .before .before .before .before .before .before .args in
     let pre = c .before .before .before .before .before .before .before .before .before .before .before .before .before .before .before .pre in
-    let w : GroupWent (a .shares) (a .declared) (a .text .now) 16 (a .table .now) (a .progress) (c .before .before .before .before .before .before .before .before .before .group .last .1 .0) (c .before .before .before .before .before .read2 .given .0 .0) =
-    subst (λ (r : Answer). GroupReads (a .shares) (a .declared) (a .text .now) 16 (a .table .now) (a .progress) (c .before .before .before .before .before .before .before .before .before .group .last .1 .0) r)
-    (c .before .before .before .before .before .read2 .given .1) (c .before .before .before .before .before .before .before .before .before .group .ensures) in
-    line-finished (a .shares) (a .declared) (a .text .now) (a .table .now) (a .progress) (c .before .before .before .before .before .before .before .before .before .group .last .1 .0) (c .before .before .finish-line .last .1 .0) _
+    let w : GroupWent (a .shares) (a .declared) (a .text .now) 16 (a .table .now) (a .progress)
+    (c .before .before .before .before .before .before .before .before .before .group .last .1 .0)
+    (c .before .before .before .before .before .read2 .given .0 .0) =
+    subst (λ (r : Answer). GroupReads (a .shares) (a .declared) (a .text .now) 16 (a .table .now) (a .progress)
+    (c .before .before .before .before .before .before .before .before .before .group .last .1 .0) r)
+    (c .before .before .before .before .before .read2 .given .1)
+    (c .before .before .before .before .before .before .before .before .before .group .ensures) in
+    line-finished (a .shares) (a .declared) (a .text .now) (a .table .now) (a .progress)
+    (c .before .before .before .before .before .before .before .before .before .group .last .1 .0) (c .before .before .finish-line .last .1 .0) _
     (c .before .before .finish-line .result) w
-    (c .before .before .finish-line .ensures (a .shares) (a .declared) (omega (arith, w .same-lines, pre .1 .1, c .before .before .before .before .before .before .before .before .before .before .before .if1 .left)))
+    (c .before .before .finish-line .ensures (a .shares) (a .declared)
+    (omega (arith, w .same-lines, pre .1 .1, c .before .before .before .before .before .before .before .before .before .before .before .if1 .left)))
 
 pub line-spec : {M : Type 1} → statement M
 line-spec =

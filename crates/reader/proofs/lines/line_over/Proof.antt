@@ -22,7 +22,8 @@ next-line-requires c κs = search needs
 returns-2 : tie.Need-returns-2
 returns-2 c =
     let pre = c .before .before .before .before .before .pre in
-    over-went _ _ _ (c .before .before .before .after-spaces .ensures) (pre .0) (pre .1) (sym (c .before .before .line-ends .ensures) ∙ not-false _ (c .before .if1 .left)) _
+    over-went _ _ _ (c .before .before .before .after-spaces .ensures) (pre .0) (pre .1)
+    (sym (c .before .before .line-ends .ensures) ∙ not-false _ (c .before .if1 .left)) _
     (c .next-line .ensures)
 
 pub line-over-spec : {M : Type 1} → statement M

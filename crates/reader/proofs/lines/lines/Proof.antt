@@ -43,8 +43,10 @@ returns : tie.Need-returns Inv-loop μ-loop
 returns c =
     let a = c .before .before .before .before .before .before .before .before .before .before .before .before .args in
     let l = c .before .before .before .before .before .before .before .before .loop in
-    past-stopped (a .shares) (a .declared) (a .text .now) (a .from) (l .table) (l .here) (l .at) (l .inv .0) (c .before .before .before .before .before .line .last .1 .0) _ _
-    (subst (λ (r : Answer). LineReads (a .shares) (a .declared) (a .text .now) (l .table) (l .here) (c .before .before .before .before .before .line .last .1 .0) r) (c .before .read .given .1)
+    past-stopped (a .shares) (a .declared) (a .text .now) (a .from) (l .table) (l .here) (l .at) (l .inv .0)
+    (c .before .before .before .before .before .line .last .1 .0) _ _
+    (subst (λ (r : Answer). LineReads (a .shares) (a .declared) (a .text .now) (l .table) (l .here)
+    (c .before .before .before .before .before .line .last .1 .0) r) (c .before .read .given .1)
     (c .before .before .before .before .before .line .ensures))
 
 enum-known-read-2 : tie.Need-enum-known-read-2 Inv-loop μ-loop
@@ -54,8 +56,10 @@ loop-less : tie.Need-loop-less Inv-loop μ-loop
 loop-less c =
     let a = c .before .before .before .before .before .before .before .before .before .before .before .before .args in
     let l = c .before .before .before .before .before .before .before .before .loop in
-    let w : LineWent (a .shares) (a .declared) (a .text .now) (l .table) (l .here) (c .before .before .before .before .before .line .last .1 .0) (c .before .read2 .given .0 .0) =
-    subst (λ (r : Answer). LineReads (a .shares) (a .declared) (a .text .now) (l .table) (l .here) (c .before .before .before .before .before .line .last .1 .0) r) (c .before .read2 .given .1)
+    let w : LineWent (a .shares) (a .declared) (a .text .now) (l .table) (l .here) (c .before .before .before .before .before .line .last .1 .0)
+    (c .before .read2 .given .0 .0) =
+    subst (λ (r : Answer). LineReads (a .shares) (a .declared) (a .text .now) (l .table) (l .here)
+    (c .before .before .before .before .before .line .last .1 .0) r) (c .before .read2 .given .1)
     (c .before .before .before .before .before .line .ensures) in
     let place = l .inv .0 .place in
     let more = w .forward .1 (omega (arith, c .before .before .before .before .before .before .before .loop-test .taken, place)) in
@@ -66,7 +70,8 @@ loop-again c =
     let a = c .before .before .before .before .before .before .before .before .before .before .before .before .args in
     let l = c .before .before .before .before .before .before .before .before .loop in (
       past-line (a .shares) (a .declared) (a .text .now) (a .from) (l .table) (l .here) (l .at) (l .inv .0) _ _
-          (subst (λ (r : Answer). LineReads (a .shares) (a .declared) (a .text .now) (l .table) (l .here) (c .before .before .before .before .before .line .last .1 .0) r) (c .before .read2 .given .1)
+          (subst (λ (r : Answer). LineReads (a .shares) (a .declared) (a .text .now) (l .table) (l .here)
+          (c .before .before .before .before .before .line .last .1 .0) r) (c .before .read2 .given .1)
           (c .before .before .before .before .before .line .ensures)),
       search needs,
     )
@@ -78,7 +83,8 @@ returns-2 : tie.Need-returns-2 Inv-loop μ-loop
 returns-2 c =
     let a = c .before .before .before .before .before .before .before .args in
     let l = c .before .before .before .loop in
-    past-few (a .shares) (a .declared) (a .text .now) (a .from) (l .table) (l .here) (l .at) (l .inv .0) (c .before .before .loop-test .left) (c .if1 .taken)
+    past-few (a .shares) (a .declared) (a .text .now) (a .from) (l .table) (l .here) (l .at) (l .inv .0) (c .before .before .loop-test .left)
+    (c .if1 .taken)
 
 same-length-3 : tie.Need-same-length-3 Inv-loop μ-loop
 same-length-3 c = search needs
@@ -87,7 +93,8 @@ returns-3 : tie.Need-returns-3 Inv-loop μ-loop
 returns-3 c =
     let a = c .before .before .before .before .before .before .before .args in
     let l = c .before .before .before .loop in
-    past-all (a .shares) (a .declared) (a .text .now) (a .from) (l .table) (l .here) (l .at) (l .inv .0) (c .before .before .loop-test .left) (c .if1 .left)
+    past-all (a .shares) (a .declared) (a .text .now) (a .from) (l .table) (l .here) (l .at) (l .inv .0) (c .before .before .loop-test .left)
+    (c .if1 .left)
 
 pub lines-spec : {M : Type 1} → statement M
 lines-spec =

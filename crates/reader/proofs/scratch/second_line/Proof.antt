@@ -1,12 +1,12 @@
--- `reader::second_line` meets its contract: ten bytes on, or at the text's end.
+-- `reader::scratch::second_line` meets its contract: ten bytes on, or at the text's end.
 -- Assumes nothing.
 use Prim.Native.Nat.{ℕ}
 use mathlib.Core.Path.{sym, ap}
 use mathlib.Core.Bool.{Bool, cond}
 use borrow.Author.Tests.{lt-ltb, le-ltb}
 use lib.ListN.{length}
-use Rattle.reader.proofs.second_line.Statement.{statement}
-use Rattle.reader.proofs.second_line.Tie as tie
+use Rattle.reader.proofs.scratch.second_line.Statement.{statement}
+use Rattle.reader.proofs.scratch.second_line.Tie as tie
 
 returns : tie.Need-returns
 returns c = sym (ap (λ (b : Bool). cond {A = ℕ} b (length (c .before .args .text .now)) 10) (lt-ltb _ _ (c .if1 .taken)))

@@ -1,4 +1,4 @@
--- `reader::read_lines` meets its contract: what the lines gave is what the run gives.
+-- `reader::scratch::read_lines` meets its contract: what the lines gave is what the run gives.
 -- Assumes nothing.
 use Prim.Native.Nat.{_+_}
 use mathlib.Core.Path.{subst}
@@ -6,8 +6,8 @@ use Rattle.reader.specs.Going.{LinesRead}
 use Rattle.reader.specs.declared.groups.Answer.{Answer}
 use Rattle.reader.proofs.Heading.{lines-refused, lines-scratched}
 use borrow.Author.Needs.{needs}
-use Rattle.reader.proofs.read_lines.Statement.{statement}
-use Rattle.reader.proofs.read_lines.Tie as tie
+use Rattle.reader.proofs.scratch.read_lines.Statement.{statement}
+use Rattle.reader.proofs.scratch.read_lines.Tie as tie
 
 add-lines : tie.Need-add-lines
 add-lines c = search needs
@@ -31,7 +31,8 @@ returns : tie.Need-returns
 returns c =
     let a = c .before .before .before .before .before .before .before .before .before .args in
     lines-refused (a .text .now) (a .order) (a .masks) (c .before .before .before .before .before .lines .last .1 .0) _ _
-    (subst (λ (r : Answer). LinesRead (a .order + 1) (a .masks .declared) (a .text .now) (a .masks .end) (c .before .before .before .before .before .lines .last .1 .0) r) (c .before .read .given .1)
+    (subst (λ (r : Answer). LinesRead (a .order + 1) (a .masks .declared) (a .text .now) (a .masks .end)
+    (c .before .before .before .before .before .lines .last .1 .0) r) (c .before .read .given .1)
     (c .before .before .before .before .before .lines .ensures))
 
 same-length-2 : tie.Need-same-length-2
@@ -42,7 +43,8 @@ returns-2 c =
     let a = c .before .before .before .before .before .before .before .before .before .args in
     let pre = c .before .before .before .before .before .before .before .before .before .pre in
     lines-scratched (a .text .now) (a .order) (a .masks) (c .before .before .before .before .before .lines .last .1 .0) _ (pre .0) (pre .2)
-    (subst (λ (r : Answer). LinesRead (a .order + 1) (a .masks .declared) (a .text .now) (a .masks .end) (c .before .before .before .before .before .lines .last .1 .0) r) (c .before .read2 .given .1)
+    (subst (λ (r : Answer). LinesRead (a .order + 1) (a .masks .declared) (a .text .now) (a .masks .end)
+    (c .before .before .before .before .before .lines .last .1 .0) r) (c .before .read2 .given .1)
     (c .before .before .before .before .before .lines .ensures))
 
 pub read-lines-spec : {M : Type 1} → statement M

@@ -1,0 +1,89 @@
+// Reading into a table of the code's own: the whole text, with no table lent. Refusal 10 is the caller's.
+ghost use mathlib.Core.Path.{_≡_};
+ghost use Prim.Native.Nat.{_≤_};
+ghost use lib.ListN.{length};
+ghost use Rattle.description.specs.Header.{orderLine};
+ghost use Rattle.description.specs.Run.{secondLine};
+ghost use Rattle.description.specs.declared.OrderLine.{OrderLine};
+ghost use Rattle.reader.specs.Going.{LinesListed, SecondReads, ScratchReads};
+use super::ReadAnswer;
+use super::groups::Answer;
+use super::lines::lines;
+use description::Masks;
+use description::MasksLine;
+use description::OrderLine;
+use description::Refusal;
+use tokens::header::masks_line;
+use tokens::header::order_line;
+
+pub const MAX_TEXT_BYTES: usize = 4096;
+
+// Where the second line starts: `ORDER = `, a digit and a line end stand before it.
+const SECOND_LINE: usize = 10;
+
+// Reads a text into a table of 12,288 bytes; wires are counted on past the 512th.
+pub fn read_scratch(text: &[u8], scratch: &mut [u8]) -> ReadAnswer
+    requires { ⌜ length (now scratch) ≡ 12288 ⌝ }
+    ensures { λ r. ⌜ ScratchReads (now (text .entry)) (now (scratch .exit)) r ⌝ }
+{
+    if MAX_TEXT_BYTES < text.len() {
+        return ReadAnswer::Refused {
+            why: Refusal::TextTooLong,
+            offset: MAX_TEXT_BYTES,
+        };
+    }
+    let first = order_line(text);
+    match first {
+        OrderLine::Wrong => ReadAnswer::Refused {
+            why: Refusal::WrongOrderLine,
+            offset: 0,
+        },
+        OrderLine::Order(order) => read_second(text, scratch, order),
+    }
+}
+
+// Where the second line starts, or the text's length.
+fn second_line(text: &[u8]) -> usize
+    ensures { λ r. ⌜ r ≡ secondLine (now (text .entry)) ⌝ }
+{
+    if text.len() < SECOND_LINE {
+        return text.len();
+    }
+    SECOND_LINE
+}
+
+// The second line and the output lines.
+fn read_second(text: &[u8], scratch: &mut [u8], order: usize) -> ReadAnswer
+    requires { ⌜ (length (now text) ≤ 4096) × (length (now scratch) ≡ 12288) × (orderLine (now text) ≡ OrderLine.Order order) ⌝ }
+    ensures { λ r. ⌜ SecondReads (now (text .entry)) order (now (scratch .exit)) r ⌝ }
+{
+    let from = second_line(text);
+    let second = masks_line(text, from);
+    match second {
+        MasksLine::Wrong => ReadAnswer::Refused {
+            why: Refusal::WrongMasksLine,
+            offset: from,
+        },
+        MasksLine::Declared(masks) => read_lines(text, scratch, order, masks),
+    }
+}
+
+// The output lines, read into a table of 12,288 bytes.
+fn read_lines(text: &[u8], scratch: &mut [u8], order: usize, masks: Masks) -> ReadAnswer
+    requires { ⌜ (length (now text) ≤ 4096) × (length (now scratch) ≡ 12288) × (order ≤ 7) × (masks .end ≤ length (now text)) ⌝ }
+    ensures { λ r. ⌜ LinesListed (now (text .entry)) order masks (now (scratch .exit)) r ⌝ }
+{
+    let read = lines(text, scratch, order + 1, masks.declared, masks.end);
+    match read {
+        Answer::Stopped(why, offset) => ReadAnswer::Refused {
+            why: why,
+            offset: offset,
+        },
+        Answer::Went(done) => ReadAnswer::Read {
+            order: order,
+            shares: order + 1,
+            masks: masks.count,
+            wires: done.wires,
+        },
+    }
+}
