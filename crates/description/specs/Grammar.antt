@@ -3,18 +3,26 @@
 --     Items                    the items of a group, left to right, each with its place
 --     Description              order, declared masks, and the groups of the output lines
 --     Byte, Bytes              a byte, a run of bytes of the text at a place
+--     empty                    whether there are no items
 --     Spelled text p is q      the items stand in the text from place p up to, without, place q
 --     Lines text p lines       the output lines stand in the text from place p to its end
+--     counted                  lines without items are skipped
+--     joined, further-names    the names of masks, parted by a comma and a space
 --     headerText               the two header lines, without the second's end
+--     member, once             whether a number is one of the names; whether none is given twice
 --     Spells text d            the text spells the description
 --     uses, symbols            the symbols of items with their places, and without
 --     depth                    how deep items nest
 --     Event, worked, further   what is worked out for the items of a group, in its order
 --     sumOf                    the sum of symbols
+--     sameSymbol               whether two symbols are spelled alike
+--     additionOf               the wire of an addition
 --     eventWires               the inner wires of events, the first use of each symbol only
+--     lastOuter, outered       the last wire made the outer one of a line; a line's wires with its outer one
 --     lineWires, linesWires    the wires of an output line, of the lines
 --     wiresOf d                the wires of a description
 --     maskCount                the highest number + 1, or 0
+--     known                    a share of the order, a declared mask
 --     Limits text d            the description is within the limits of a text
 use Prim.Native.Nat.{ℕ, _+_, _-_, _≤_}
 use mathlib.Core.Path.{_≡_}

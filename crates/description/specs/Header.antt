@@ -1,8 +1,13 @@
 -- The two header lines (scope, "The description text").
 --     orderLine text           what the first line gives: exactly `ORDER = ` and one digit 1 to 7
+--     orderDigit               its digit, and the line's end
 --     masksLine at l           what the second line gives, l from its start at place `at` on: exactly `MASKS = [`, then nothing or names parted
 --                              by a comma and a space, none twice, then `]`
---     nameStep, namesFrom      the names from a place on
+--     masksOf, closed          what is declared where the list is closed
+--     larger                   the larger of two numbers
+--     parted, bracketHere      whether a comma and a space, a closing bracket, stand here
+--     NameStep, afterName, namedStep, nameStep      one name more, and what follows it: the next, or the end of the line
+--     namesFrom                the names from a place on
 use Prim.Native.Nat.{ℕ, zero, suc, _+_, _-_, _^_}
 use mathlib.Core.Bool.{Bool, false, cond, _&&_}
 use mathlib.Core.List.{List, [], _∷_}

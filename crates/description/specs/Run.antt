@@ -4,15 +4,22 @@
 --     maxText, maxDepth   the limits of a text
 --     Around              a group around the innermost, and the place of the parenthesis that was opened in it
 --     State               what is known before a byte
+--     placed              a symbol with its place
 --     start               what is known before the output lines
 --     used                a symbol is used: its first use lists a wire
 --     put                 an item is put into the innermost group: any but the first is added, and the addition lists a wire
---     opened, closed      a parenthesis opened, closed
+--     symbolItem, took    a symbol as an item; it is used, and then put
+--     within, opened      a state in another group; a parenthesis opened
+--     groupItem, closed   a group in parentheses as an item; a parenthesis closed
+--     newestOuter         the newest wire made the outer one of a line
 --     lineDone            an output line done: its last addition, or the single symbol's own wire, is outer
 --     Step, step          what is done at a byte: go on, so many bytes passed over after it, or stop
---     lineStep            what is done at a line's end
---     Outcome, run        the run over the bytes from a place on
---     Reading, reading    the reading of a whole text
+--     lineStep, openStep, closeStep, symbolStep     what is done at a line's end, at a parenthesis, at a symbol
+--     Outcome, finish     what a run comes to; the text's end
+--     run, runAt          the run over the bytes from a place on
+--     Reading, listed     what reading comes to, and so after the run
+--     secondLine          where the second line starts, or the text's length
+--     afterMasks, afterOrder, reading     the reading of a whole text, from its end to its start
 use Prim.Native.Nat.{ℕ, zero, suc, _+_, _-_}
 use mathlib.Core.Bool.{Bool, false, cond, _||_}
 use mathlib.Core.List.{List, [], _∷_, reverse}

@@ -1,11 +1,15 @@
 -- Symbols (scope, "The description text"): `s` and two digits i j, the product of share i of a and share j of b; `a` or `b` and one digit, that
 -- share; `r` and a number, that mask.
+--     sumWith                  a sum of these words
 --     symbolSum s              the sum that names this symbol alone
 --     isIn s t                 whether a sum names the symbol
---     nameLength k             how many bytes the name of mask k has
+--     nameLength k, maskName k     how many bytes the name of mask k has, and which
 --     spelling s               the bytes of a symbol
 --     formed s                 whether a symbol can be spelled
---     maskAt l                 the mask whose name stands at the start of l: r and a number 0 to 63 without leading zeros
+--     symbolLength s           how many bytes that are
+--     maskNumber, maskAt l     the mask whose name stands at the start of l: r and a number 0 to 63 without leading zeros
+--     shareDigit n c           whether c is the digit of a share below n
+--     productRead, shareRead, namedRead     what follows the letter of a product, of a share; a mask's name and nothing after it
 --     symbolRead n d w         what the run of bytes w is, for n shares and the declared masks d
 use Prim.Native.Nat.{ℕ, _+_, _*_, _-_, _/_, _%_, _^_}
 use mathlib.Core.Bool.{Bool, cond, _&&_, _||_}

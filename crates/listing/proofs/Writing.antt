@@ -13,7 +13,7 @@ use lib.ListN.{length, take, set}
 use lib.Seq.{sets, take-set-lt}
 use Rattle.description.specs.Listing.{bytesOf}
 
-pub sets-append : (l : List ℕ) (i : ℕ) (vs ws : List ℕ) → sets l i (vs ++ ws) ≡ sets (sets l i vs) (i + length vs) ws
+sets-append : (l : List ℕ) (i : ℕ) (vs ws : List ℕ) → sets l i (vs ++ ws) ≡ sets (sets l i vs) (i + length vs) ws
 sets-append l i [] ws = let e : i ≡ i + 0 = omega arith in ap (λ (k : ℕ). sets l k ws) e
 sets-append l i (v ∷ vs) ws =
     let e : suc i + length vs ≡ i + suc (length vs) = omega arith in

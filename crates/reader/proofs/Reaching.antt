@@ -110,7 +110,7 @@ known-mask declared w s e = go (maskAt w) refl e
                 (eqb-true (length w) (nameLength k) t ∙ ap symbolLength f, subst Small f less)
             there false e = let z : _≡_ {A = ℕ} 0 1 = cc in absurd (omega (arith, z))
 
-pub symbol-known : (n declared : ℕ) (w : List ℕ) (s : Symbol) → n ≤ 8 → symbolRead n declared w ≡ Known s
+symbol-known : (n declared : ℕ) (w : List ℕ) (s : Symbol) → n ≤ 8 → symbolRead n declared w ≡ Known s
     → (length w ≡ symbolLength s) × Small s
 symbol-known n declared [] s few e = no-symbol e
 symbol-known n declared (c ∷ w) s few e = product (eqb c letterS) e
@@ -135,7 +135,7 @@ symbol-known n declared (c ∷ w) s few e = product (eqb c letterS) e
     product true e = known-product n few c w s e
     product false e = share (eqb c letterA) e
 
-pub word-taken : (l : List ℕ) → take (length (word l)) l ≡ word l
+word-taken : (l : List ℕ) → take (length (word l)) l ≡ word l
 word-taken l = ap (take (length (word l))) (word-rest l) ∙ take-at (word l) (drop (length (word l)) l) (length (word l)) refl
 
 pub word-fits : (text : List ℕ) (at size : ℕ) → at ≤ length text → size ≡ length (word (drop at text)) → at + size ≤ length text

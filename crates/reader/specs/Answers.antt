@@ -3,9 +3,9 @@
 --     ReadLent            what is told, with what the lent table then holds
 --     readTold            what the code's answer tells
 --     tooLarge            refusal 10
---     readText            what reading is to tell, and what the lent table then holds
+--     lentReading, readText     what reading is to tell, and what the lent table then holds
 --     partRefusalNumber, partTold     the numbers of a text part's refusals, and what its answer tells
---     partPlace, partCheck            what the check of a text part is to tell: the offset and length, or the refusal
+--     partChecked, partCheck          what the check of a text part is to tell: the offset and length, or the refusal
 --     textPart            the part of the text, empty where it is refused
 use Prim.Native.Nat.{ℕ, _+_, _*_}
 use mathlib.Core.Bool.{Bool, cond, _||_}

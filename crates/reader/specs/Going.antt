@@ -4,6 +4,8 @@
 --     Reached           going on with the run from one state equals going on from another, for which the progress then stands
 --     ItemByte, Ends    a byte that begins an item; the places where a group ends
 --     Skips             spaces are passed over
+--     outside           the group around, with the place of the parenthesis
+--     ItemWent, GroupWent, CloseWent, LineWent, AllRead, Stops     where the reading goes on; where it stops
 --     ItemReads, GroupReads, CloseReads, LineReads, LinesRead      what the answer of each part says
 --     Scratched, OutcomeRead, LinesListed, SecondReads, ScratchReads     what reading into a table of the code's own has found, from the output
 --                       lines, from the second line, from the start
