@@ -3,7 +3,6 @@
 --     records-append                   the records of wires in two parts
 --     number-bytes                     a number below 256 ^ size is that of its bytes
 --     SmallSum, Bounded                the words of a sum, the fields of a wire, fit into the bytes of a record
---     wireOf                           the wire that a listed wire is
 --     flag-low                         the byte of inner or outer is 0 or 1
 --     encoded-outer, encoded-line, encoded-offset, encoded-length     what the record of a bounded wire says
 --     decoded                          the record of a bounded wire is decoded to the wire
@@ -22,7 +21,7 @@ use Rattle.wires.specs.Wires.{Terms, Wire}
 use Rattle.records.specs.Words.{number}
 use Rattle.records.specs.Layout.{field, decodeTerms, decode, lineOf, offsetOf, lengthOf, recordAt, wireCount, termsOf}
 use Rattle.records.specs.declared.sums.Sum.{Sum}
-use Rattle.description.specs.Listing.{bytesOf, encode, recordsOf}
+use Rattle.description.specs.Listing.{bytesOf, encode, recordsOf, wireOf}
 use Rattle.description.specs.declared.Listed.{Listed}
 
 -- ---- lengths
@@ -62,9 +61,6 @@ pub record Bounded (w : Listed) : Type 0 where
   pub line : w .line < 256
   pub offset : w .offset < 65536
   pub length : w .length < 65536
-
-abbrev pub wireOf : Listed → Wire
-wireOf w = record { terms = termsOf (w .sum); outer = w .outer }
 
 pub flag-low : (b : Bool) → oneIf b ≤ 1
 flag-low true = omega arith

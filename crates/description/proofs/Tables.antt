@@ -1,13 +1,15 @@
 -- The records of a description's wires as a table: what the operations on a table then say.
 --     wires-mean       its wires are the listed ones
+--     places-mean      its records name the places of the listed wires
 --     parts-within     the part of the text that a record names lies in the text
 --     table-passes     the table passes the tests
 use Prim.Native.Nat.{ℕ, _+_, _≤_, _<_}
 use native.Mathlib.Omega.{arith}
 use mathlib.Core.Path.{_≡_, sym, _∙_, ap, ap₂, subst}
 use mathlib.Core.Bool.{false}
-use mathlib.Core.List.{List, [], _∷_, map}
-use lib.ListN.{length, getD}
+use mathlib.Core.List.{List, [], _∷_, _++_, map}
+use lib.ListN.{length, getD, length-append}
+use lib.Seq.{getD-append-seam}
 use Rattle.basics.specs.Told.{values}
 use Rattle.wires.specs.Wires.{Wire}
 use Rattle.wires.proofs.Narrow.{Within, within}
@@ -15,10 +17,10 @@ use Rattle.records.specs.Layout.{field, decode, offsetOf, lengthOf, recordAt, w
 use Rattle.records.proofs.Bytes.{wires-none, wires-more}
 use Rattle.table.specs.Answers.{tableCheck}
 use Rattle.table.proofs.Entries.{Sound, accepted-exactly}
-use Rattle.description.specs.Listing.{encode, recordsOf}
+use Rattle.description.specs.Listing.{encode, recordsOf, wireOf}
 use Rattle.description.specs.Grammar.{Description, Spells, Limits, wiresOf, maskCount}
 use Rattle.description.specs.declared.Listed.{Listed}
-use Rattle.description.proofs.Encoding.{wireOf, length-encode, length-records, flag-low, encoded-outer, encoded-offset, encoded-length}
+use Rattle.description.proofs.Encoding.{length-encode, length-records, flag-low, encoded-outer, encoded-offset, encoded-length}
 use Rattle.description.proofs.Encoding.{decoded, record-of, record-count}
 use Rattle.description.proofs.Sums.{count-low}
 use Rattle.description.proofs.Fitting.{All, all-at, Fits, wires-fit}
@@ -46,6 +48,19 @@ module _ (text : List ℕ) (d : Description) (s : Spells text d) (l : Limits tex
 
   fits-at : (k : ℕ) → k < length ws → Fits text (d .order + 1) (maskCount (d .names)) (getD ws k anyWire)
   fits-at k h = all-at (Fits text (d .order + 1) (maskCount (d .names))) ws k anyWire (wires-fit text d s l) h
+
+  pub places-mean : (before after : List Listed) (w : Listed) → wiresOf d ≡ before ++ w ∷ after
+      → (offsetOf (recordAt (recordsOf (wiresOf d)) (length before)) ≡ w .offset)
+      × (lengthOf (recordAt (recordsOf (wiresOf d)) (length before)) ≡ w .length)
+  places-mean before after w e =
+      let inside : length before < length ws =
+      omega (arith, ap length e, length-append before (w ∷ after)) in
+      let there : getD ws (length before) anyWire ≡ w =
+      ap (λ l. getD l (length before) anyWire) e ∙ getD-append-seam before w after anyWire in
+      let at = record-of ws (length before) anyWire inside ∙ ap encode there in
+      let f : Fits text (d .order + 1) (maskCount (d .names)) w =
+      subst (Fits text (d .order + 1) (maskCount (d .names))) there (fits-at (length before) inside) in
+      (ap offsetOf at ∙ encoded-offset w (f .bounded), ap lengthOf at ∙ encoded-length w (f .bounded))
 
   pub parts-within : (k : ℕ) → k < length (wiresOf d)
       → offsetOf (recordAt (recordsOf (wiresOf d)) k) + lengthOf (recordAt (recordsOf (wiresOf d)) k) ≤ length text

@@ -4,6 +4,7 @@
 --     encode w              the 24 bytes of a wire's record
 --     recordsOf ws          the records of wires, in their order
 --     maxWires              the most wires of a table
+--     wireOf w              the wire, as the theory of wires sees it
 --     symbolWire p          the inner wire of a symbol's first use
 --     outerWire line p      the outer wire of a line that is a single symbol
 --     madeOuter line w      the wire, made the outer one of a line
@@ -13,7 +14,8 @@ use Prim.Native.Nat.{ℕ, zero, suc, _-_, _/_, _%_}
 use mathlib.Core.Bool.{true, false, cond}
 use mathlib.Core.List.{List, [], _∷_, _++_}
 use Rattle.basics.specs.Folds.{oneIf}
-use Rattle.records.specs.Layout.{noSum, plusSum}
+use Rattle.wires.specs.Wires.{Wire}
+use Rattle.records.specs.Layout.{termsOf, noSum, plusSum}
 use Rattle.records.specs.declared.sums.Sum.{Sum}
 use Rattle.description.specs.Symbols.{symbolSum, symbolLength}
 use Rattle.description.specs.declared.Listed.{Listed}
@@ -42,6 +44,9 @@ recordsOf (w ∷ ws) = encode w ++ recordsOf ws
 
 abbrev pub maxWires : ℕ
 maxWires = 512
+
+abbrev pub wireOf : Listed → Wire
+wireOf w = record { terms = termsOf (w .sum); outer = w .outer }
 
 abbrev pub symbolWire : PlacedSymbol → Listed
 symbolWire p =

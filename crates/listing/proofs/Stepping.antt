@@ -5,7 +5,6 @@
 --     put-first, put-added       the first item of a group, any other
 --     took-step            a symbol used and put
 --     line-added, line-single    the end of a line with an addition, of a single symbol
---     not-true, not-false  a test that is turned round
 --     symbol-short         a symbol has at most three bytes
 --     used-wires           a use lists at most one wire
 use Prim.Native.Nat.{ℕ, _+_, _-_, _≤_}
@@ -196,14 +195,6 @@ module _ (table : List ℕ) (p : Progress) where
       (ap (λ (h : Group). progress (p .at) (p .wires + 1) (p .seen) (p .lines + 1) false (p .last) h) eg ∙ ap afterLine (sym e))
       (follows-line table′ (λ f. absurd (true≢false (sym f ∙ e)))
       (λ _. subst (λ (v : Listed). Lists table (p .wires) table′ (madeOuter (p .lines) v)) ew lists))
-
-pub not-true : (b : Bool) → not b ≡ true → b ≡ false
-not-true true e = sym e
-not-true false e = refl
-
-pub not-false : (b : Bool) → not b ≡ false → b ≡ true
-not-false true e = refl
-not-false false e = sym e
 
 pub symbol-short : (s : Symbol) → symbolLength s ≤ 3
 symbol-short (Product i j) = omega arith

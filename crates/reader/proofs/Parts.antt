@@ -2,7 +2,9 @@
 --     place-small                  the offset and length of a record are numbers of two bytes
 --     PartStands, part-exactly     the check accepts exactly when each condition holds, and tells what the record says
 --     part-numbers                 the numbers of the refusals
+--     part-refused, part-given     what another answer makes of the same tests
 --     part-told                    the part is the text's, by the offset and length that the check tells; refused, it is empty
+--     start-told                   where it starts
 use Prim.Native.Nat.{ℕ, _+_, _*_, _%_, _≤_, _<_}
 use native.Mathlib.Omega.{arith}
 use mathlib.Core.Path.{_≡_, refl, sym, _∙_, ap₂}
@@ -19,7 +21,7 @@ use Rattle.records.specs.Layout.{field, recordAt, wireCount, offsetOf, lengthOf
 use Rattle.records.proofs.Fields.{two-bytes, field-at, record-inside}
 use Rattle.records.proofs.Bytes.{Bytes}
 use Rattle.table.specs.Answers.{wrongLength}
-use Rattle.reader.specs.Answers.{partRefusalNumber, partCheck, textPart}
+use Rattle.reader.specs.Answers.{partRefusalNumber, partChecked, partCheck, textPart, partStart}
 use Rattle.reader.specs.declared.PartRefusal.{PartRefusal}
 
 short-small : (table : List ℕ) (wire at : ℕ) → Bytes table → wire < wireCount table → at + 2 ≤ 24 → field at 2 (recordAt table wire) < 65536
@@ -100,27 +102,35 @@ module _ (text table : List ℕ) (wire : ℕ) where
           ) in
           accepts ∙ ap₂ (λ (o s : ℕ). values (o ∷ s ∷ [])) (sym (h .same-offset)) (sym (h .same-size))
 
+  -- what is made of the same tests by another answer
+  module _ {A : Type 0} (refuse : ℕ → A) (part : ℕ → ℕ → A) where
+    pub part-refused : (number : ℕ) → partCheck text table wire ≡ refusal number → partChecked refuse part text table wire ≡ refuse number
+    part-refused number e =
+        let told = values (at ∷ long ∷ []) in
+        let third = cond outside (refuse 22) (part at long) in
+        let told-third = cond outside (refusal 22) told in
+        test-carried refuse (wrongLength table) 12 number (cond beyond (refusal 21) told-third) (cond beyond (refuse 21) third) (sym e)
+        (λ f. test-carried refuse beyond 21 number told-third third f
+        (λ g. test-carried refuse outside 22 number told (part at long) g
+        (λ values-told. absurd (values-refusal (at ∷ long ∷ []) number (sym values-told)))))
+
+    pub part-given : (offset size : ℕ) → partCheck text table wire ≡ values (offset ∷ size ∷ [])
+        → partChecked refuse part text table wire ≡ part offset size
+    part-given offset size e =
+        let h = passed offset size e in
+        let s = part-exactly offset size .0 e in
+        let there : partChecked refuse part text table wire ≡ part at long = simp (h .right-length, h .right-wire, h .right-place) in
+        there ∙ ap₂ part (sym (s .same-offset)) (sym (s .same-size))
+
   pub part-told : ((number : ℕ) → partCheck text table wire ≡ refusal number → textPart text table wire ≡ [])
       × ((offset size : ℕ) → partCheck text table wire ≡ values (offset ∷ size ∷ []) → textPart text table wire ≡ take size (drop offset text))
-  part-told = (refused, given)
-    where
-      refused : (number : ℕ) → partCheck text table wire ≡ refusal number → textPart text table wire ≡ []
-      refused number e =
-          let none : ℕ → List ℕ = λ k. [] in
-          let part = take long (drop at text) in
-          let told = values (at ∷ long ∷ []) in
-          let third = cond outside [] part in
-          let told-third = cond outside (refusal 22) told in
-          test-carried none (wrongLength table) 12 number (cond beyond (refusal 21) told-third) (cond beyond [] third) (sym e)
-          (λ f. test-carried none beyond 21 number told-third third f
-          (λ g. test-carried none outside 22 number told part g (λ values-told. absurd (values-refusal (at ∷ long ∷ []) number (sym values-told)))))
+  part-told =
+      (part-refused (λ number. []) (λ offset size. take size (drop offset text)),
+      part-given (λ number. []) (λ offset size. take size (drop offset text)))
 
-      given : (offset size : ℕ) → partCheck text table wire ≡ values (offset ∷ size ∷ []) → textPart text table wire ≡ take size (drop offset text)
-      given offset size e =
-          let h = passed offset size e in
-          let s = part-exactly offset size .0 e in
-          let part : textPart text table wire ≡ take long (drop at text) = simp (h .right-length, h .right-wire, h .right-place) in
-          part ∙ ap₂ (λ (n k : ℕ). take n (drop k text)) (sym (s .same-size)) (sym (s .same-offset))
+  pub start-told : ((number : ℕ) → partCheck text table wire ≡ refusal number → partStart text table wire ≡ 0)
+      × ((offset size : ℕ) → partCheck text table wire ≡ values (offset ∷ size ∷ []) → partStart text table wire ≡ offset)
+  start-told = (part-refused (λ number. 0) (λ offset size. offset), part-given (λ number. 0) (λ offset size. offset))
 
 pub part-numbers : (partRefusalNumber PartRefusal.TableLength ≡ 12) × (partRefusalNumber PartRefusal.NoSuchWire ≡ 21)
     × (partRefusalNumber PartRefusal.OutsideTheText ≡ 22)

@@ -9,25 +9,24 @@ use native.Mathlib.Nat.{mul-comm, mul-mod-left}
 use native.Mathlib.Omega.{arith}
 use mathlib.Core.Path.{_≡_, refl, sym, _∙_, ap, ap₂, subst}
 use mathlib.Core.Bool.{Bool, true, false, cond, _||_}
-use mathlib.Core.List.{List, [], _++_}
+use mathlib.Core.List.{List, [], _∷_, _++_}
 use borrow.Author.Tests.{ltb-false, lt-ltb, le-ltb}
 use lib.Dec.{ltb}
-use lib.ListN.{length, take, drop}
+use lib.ListN.{length, take, drop, length-append}
 use lib.Seq.{take-at}
-use Rattle.basics.specs.Told.{values, refusal}
-use Rattle.basics.proofs.Telling.{values-refusal}
+use Rattle.basics.specs.Told.{values}
 use Rattle.basics.proofs.Tests.{or-left, or-right, or-none}
-use Rattle.records.specs.Layout.{recordBytes}
+use Rattle.records.specs.Layout.{recordBytes, wires}
 use Rattle.table.specs.Answers.{tableCheck}
 use Rattle.description.specs.Listing.{recordsOf}
-use Rattle.description.specs.Grammar.{Description, Spells, wiresOf, maskCount}
+use Rattle.description.specs.Grammar.{Description, Spells, Limits, wiresOf, maskCount}
 use Rattle.description.specs.Run.{Reading, read, turnedDown, reading, refusalNumber}
 use Rattle.description.specs.declared.Listed.{Listed}
 use Rattle.description.specs.declared.Refusal.{Refusal}
 use Rattle.description.specs.declared.Refusal.the-variants.{TooManyWires}
 use Rattle.description.proofs.Encoding.{length-records, record-count}
 use Rattle.description.proofs.Exactly.{spelled-read, read-spelled, spelled-limits}
-use Rattle.description.proofs.Tables.{table-passes, parts-within}
+use Rattle.description.proofs.Tables.{wires-mean, places-mean, parts-within, table-passes}
 use Rattle.reader.specs.Answers.{ReadLent, gives, refused, readTold, tooLarge, lentReading, readText, partCheck}
 use Rattle.reader.specs.Going.{Scratched}
 use Rattle.reader.specs.Reads.{Readable, Given, ReadsGrammar}
@@ -130,55 +129,67 @@ module _ (text table : List ℕ) where
       ∙ take-at (recordsOf (g .listed-wires)) (drop (24 * length (g .listed-wires)) table) (24 * length (g .listed-wires))
       (length-records (g .listed-wires))
 
-  given : (order shares masks wires : ℕ) (held : List ℕ) → Granted order shares masks wires held → (d : Description) → Spells text d
-      → Given d order shares masks wires held
-  given order shares masks wires held g d spells =
-      let limits = spelled-limits text order masks (g .listed-wires) (g .reads) d spells in
-      let same : read order masks (g .listed-wires) ≡ read (d .order) (maskCount (d .names)) (wiresOf d) =
-      sym (g .reads) ∙ spelled-read text d spells limits in
-      let eo : order ≡ d .order = cc in
-      let em : masks ≡ maskCount (d .names) = cc in
-      let ew : g .listed-wires ≡ wiresOf d = cc in
-      record {
-        same-order = eo;
-        same-shares = g .same-shares ∙ ap (λ (n : ℕ). n + 1) eo;
-        same-masks = em;
-        same-count = g .same-count ∙ ap length ew;
-        same-wires = held-records order shares masks wires held g ∙ ap recordsOf ew;
-      }
+  -- the wires, and the parts of the text, of the records that stand in the table
+  module _ (order shares masks count : ℕ) (held : List ℕ) (g : Granted order shares masks count held) (d : Description) (spells : Spells text d) where
+    limits : Limits text d
+    limits = spelled-limits text order masks (g .listed-wires) (g .reads) d spells
 
-  passes : (order shares masks wires : ℕ) (held : List ℕ) → Granted order shares masks wires held
-      → tableCheck (take (24 * wires) held) shares masks ≡ values []
-  passes order shares masks wires held g =
+    same : read order masks (g .listed-wires) ≡ read (d .order) (maskCount (d .names)) (wiresOf d)
+    same = sym (g .reads) ∙ spelled-read text d spells limits
+
+    same-list : g .listed-wires ≡ wiresOf d
+    same-list = let e = same in cc
+
+    records : take (24 * count) held ≡ recordsOf (wiresOf d)
+    records = held-records order shares masks count held g ∙ ap recordsOf same-list
+
+    few-wires : length (wiresOf d) ≤ 512
+    few-wires = subst (λ (ws : List Listed). length ws ≤ 512) same-list (g .few)
+
+    multiple : (n : ℕ) → 24 * n % 24 ≡ 0
+    multiple n = ap (λ (k : ℕ). k % 24) (mul-comm 24 n) ∙ mul-mod-left n 24
+
+    parts : (before after : List Listed) (w : Listed) → wiresOf d ≡ before ++ w ∷ after
+        → partCheck text (recordsOf (wiresOf d)) (length before) ≡ values (w .offset ∷ w .length ∷ [])
+    parts before after w e =
+        let known : length before < length (wiresOf d) = omega (arith, ap length e, length-append before (w ∷ after)) in
+        let size = length-records (wiresOf d) in
+        let place = places-mean text d spells limits before after w e in
+        let within = parts-within text d spells limits (length before) known in
+        part-exactly text (recordsOf (wiresOf d)) (length before) (w .offset) (w .length) .1 (record {
+          whole = ap (λ (n : ℕ). n % 24) size ∙ multiple (length (wiresOf d));
+          short = omega (arith, size, few-wires);
+          known = subst (λ (n : ℕ). length before < n) (sym (record-count (wiresOf d))) known;
+          same-offset = sym (place .0);
+          same-size = sym (place .1);
+          inside = omega (arith, within, place .0, place .1);
+        })
+
+    given : Given text d order shares masks count held
+    given =
+        let e = same in
+        let eo : order ≡ d .order = cc in
+        let em : masks ≡ maskCount (d .names) = cc in
+        record {
+          same-order = eo;
+          same-shares = g .same-shares ∙ ap (λ (n : ℕ). n + 1) eo;
+          same-masks = em;
+          same-count = g .same-count ∙ ap length same-list;
+          same-records = records;
+          same-wires = ap wires records ∙ wires-mean text d spells limits;
+          same-parts =
+              λ before after w f. ap (λ (l : List ℕ). partCheck text l (length before)) records ∙ parts before after w f;
+        }
+
+  passes : (order shares masks count : ℕ) (held : List ℕ) → Granted order shares masks count held
+      → tableCheck (take (24 * count) held) shares masks ≡ values []
+  passes order shares masks count held g =
       let s = read-spelled text order masks (g .listed-wires) (g .reads) in
       let d = s .description in
-      let v = given order shares masks wires held g d (s .spells) in
-      ap₂ (λ (n m : ℕ). tableCheck (take (24 * wires) held) n m) (v .same-shares) (v .same-masks)
-      ∙ ap (λ (l : List ℕ). tableCheck l (d .order + 1) (maskCount (d .names))) (v .same-wires)
-      ∙ table-passes text d (s .spells) (s .limits) (subst (λ (ws : List Listed). length ws ≤ 512) (s .same-wires) (g .few))
-
-  -- the check of a text part accepts every wire of a table that was read
-  parts : (order shares masks wires : ℕ) (held : List ℕ) → Granted order shares masks wires held → (wire number : ℕ) → wire < wires
-      → partCheck text (take (24 * wires) held) wire ≡ refusal number → ⊥
-  parts order shares masks wires held g wire number less e =
-      let s = read-spelled text order masks (g .listed-wires) (g .reads) in
-      let d = s .description in
-      let v = given order shares masks wires held g d (s .spells) in
-      let few = subst (λ (ws : List Listed). length ws ≤ 512) (s .same-wires) (g .few) in
-      let known : wire < length (wiresOf d) = subst (λ (n : ℕ). wire < n) (v .same-count) less in
-      let count = length-records (wiresOf d) in
-      let told = part-exactly text (recordsOf (wiresOf d)) wire _ _ .1 (record {
-        whole = ap (λ (n : ℕ). n % 24) count ∙ multiple (length (wiresOf d));
-        short = omega (arith, count, few);
-        known = subst (λ (n : ℕ). wire < n) (sym (record-count (wiresOf d))) known;
-        same-offset = refl;
-        same-size = refl;
-        inside = parts-within text d (s .spells) (s .limits) wire known;
-      }) in
-      values-refusal _ number (sym told ∙ ap (λ (l : List ℕ). partCheck text l wire) (sym (v .same-wires)) ∙ e)
-    where
-      multiple : (n : ℕ) → 24 * n % 24 ≡ 0
-      multiple n = ap (λ (k : ℕ). k % 24) (mul-comm 24 n) ∙ mul-mod-left n 24
+      let v = given order shares masks count held g d (s .spells) in
+      ap₂ (λ (n m : ℕ). tableCheck (take (24 * count) held) n m) (v .same-shares) (v .same-masks)
+      ∙ ap (λ (l : List ℕ). tableCheck l (d .order + 1) (maskCount (d .names))) (v .same-records)
+      ∙ table-passes text d (s .spells) (s .limits) (few-wires order shares masks count held g d (s .spells))
 
   readable : (order shares masks wires : ℕ) (held : List ℕ) → Granted order shares masks wires held → Readable text (length table)
   readable order shares masks wires held g =
@@ -218,7 +229,6 @@ module _ (text table : List ℕ) where
             λ o s m w f d spells.
             given o s m w held (granted o s m w held (ap (λ (a : ReadAnswer). readTold a held) (sym f) ∙ e)) d spells;
         read-passes = λ o s m w f. passes o s m w held (granted o s m w held (ap (λ (a : ReadAnswer). readTold a held) (sym f) ∙ e));
-        read-parts = λ o s m w f. parts o s m w held (granted o s m w held (ap (λ (a : ReadAnswer). readTold a held) (sym f) ∙ e));
       }
   reads-grammar (ReadAnswer.Refused why offset) held e = record {
     read-exactly = (
@@ -231,7 +241,6 @@ module _ (text table : List ℕ) where
     );
     read-gives = λ o s m w f d spells. let z : _≡_ {A = ℕ} 0 1 = cc in absurd (omega (arith, z));
     read-passes = λ o s m w f. let z : _≡_ {A = ℕ} 0 1 = cc in absurd (omega (arith, z));
-    read-parts = λ o s m w f wire number less g. let z : _≡_ {A = ℕ} 0 1 = cc in absurd (omega (arith, z));
   }
 
   -- both promises of reading

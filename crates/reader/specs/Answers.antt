@@ -7,6 +7,7 @@
 --     partRefusalNumber, partTold     the numbers of a text part's refusals, and what its answer tells
 --     partChecked, partCheck          what the check of a text part is to tell: the offset and length, or the refusal
 --     textPart            the part of the text, empty where it is refused
+--     partStart           where in the text the part starts; an empty part stands at the text's start
 use Prim.Native.Nat.{ℕ, _+_, _*_}
 use mathlib.Core.Bool.{Bool, cond, _||_}
 use mathlib.Core.List.{List, [], _∷_, _++_}
@@ -73,3 +74,6 @@ partCheck = partChecked refusal (λ offset size. values (offset ∷ size ∷ [])
 -- by offset and length; refused, the part is empty
 abbrev pub textPart : List ℕ → List ℕ → ℕ → List ℕ
 textPart text = partChecked (λ number. []) (λ offset size. take size (drop offset text)) text
+
+abbrev pub partStart : List ℕ → List ℕ → ℕ → ℕ
+partStart = partChecked (λ number. 0) (λ offset size. offset)

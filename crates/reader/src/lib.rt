@@ -1,10 +1,11 @@
 // The reader of descriptions, and the text part of a wire (scope, "The description text", "Wires" and "What each operation turns down").
 // Every argument may be anything its type holds: what is out of range is refused, in the scope's order, and a refusal alters no lent byte.
 ghost use mathlib.Core.Path.{_≡_};
-ghost use Prim.Native.Nat.{_≤_};
+ghost use Prim.Native.Nat.{_≤_, _+_};
+ghost use denote.Ref.{ptr};
 ghost use lib.ListN.{length, take, drop};
 ghost use mathlib.Core.List.{_++_};
-ghost use Rattle.reader.specs.Answers.{readTold, readText, partRefusalNumber, partTold, partCheck, textPart};
+ghost use Rattle.reader.specs.Answers.{readTold, readText, partRefusalNumber, partTold, partCheck, textPart, partStart};
 ghost use Rattle.reader.specs.Reads.{ReadsGrammar};
 use description::Refusal;
 use listing::MAX_WIRES;
@@ -120,9 +121,11 @@ pub fn text_part_check(text: &[u8], table: &[u8], wire: usize) -> PartAnswer
     }
 }
 
-// The part of the caller's own text that computes a wire; empty where the check refuses it.
+// The part of the caller's own text that computes a wire; empty where the check refuses it. A reference's place is a block of memory and an
+// offset in it: the part stands in the text's block, as far on from the text as the wire's offset says.
 pub fn text_part<'a>(text: &'a [u8], table: &[u8], wire: usize) -> &'a [u8]
     ensures { λ r. ⌜ now r ≡ textPart (now (text .entry)) (now (table .entry)) wire ⌝ }
+    ensures { λ r. ⌜ (ptr r .0 ≡ ptr (text .entry) .0) × (ptr r .1 ≡ ptr (text .entry) .1 + partStart (now (text .entry)) (now (table .entry)) wire) ⌝ }
 {
     let found = text_part_check(text, table, wire);
     match found {

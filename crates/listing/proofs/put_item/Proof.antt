@@ -1,7 +1,8 @@
 -- `listing::put_item` meets its contract: the first item begins the group, any other is added and lists a wire.
 -- Assumes nothing.
 use native.Mathlib.Omega.{arith}
-use Rattle.listing.proofs.Stepping.{put-first, put-added, not-true, not-false}
+use borrow.Author.Tests.{not-true, not-false}
+use Rattle.listing.proofs.Stepping.{put-first, put-added}
 use borrow.Author.Needs.{needs}
 use Rattle.listing.proofs.put_item.Statement.{statement}
 use Rattle.listing.proofs.put_item.Tie as tie

@@ -1,14 +1,14 @@
 -- `reader::text_part` meets its contract: what the check tells says where the part stands, and that it lies within the text.
 -- Assumes nothing.
 use Prim.Native.Nat.{ℕ, _+_, _≤_}
-use native.Mathlib.Nat.{add-sub-cancel-left}
-use mathlib.Core.Path.{_≡_, sym, _∙_, ap}
+use native.Mathlib.Nat.{add-comm, add-sub-cancel-left}
+use mathlib.Core.Path.{_≡_, refl, sym, _∙_, ap}
 use mathlib.Core.List.{[], _∷_}
 use lib.ListN.{length, take, drop}
 use borrow.Author.Needs.{needs}
 use Rattle.basics.specs.Told.{values}
 use Rattle.reader.specs.Answers.{partTold, partCheck}
-use Rattle.reader.proofs.Parts.{part-exactly, part-told}
+use Rattle.reader.proofs.Parts.{part-exactly, part-told, start-told}
 use Rattle.reader.proofs.text_part.Statement.{statement}
 use Rattle.reader.proofs.text_part.Tie as tie
 
@@ -59,14 +59,18 @@ returns : tie.Need-returns
 returns c =
     let a = c .before .before .before .before .before .before .before .args in
     let check = c .before .before .before .before .text-part-check in
-    sym (part-told (a .text .now) (a .table .now) (a .wire) .0 _ (sym (check .ensures) ∙ ap partTold (c .before .before .found .given .1)))
+    let no = sym (check .ensures) ∙ ap partTold (c .before .before .found .given .1) in
+    let none = start-told (a .text .now) (a .table .now) (a .wire) .0 _ no in
+    (sym (part-told (a .text .now) (a .table .now) (a .wire) .0 _ no), (refl, add-comm 0 (a .text .ptr .1) ∙ ap (λ (k : ℕ). a .text .ptr .1 + k) (sym none)))
 
 returns-2 : tie.Need-returns-2
 returns-2 c =
     let a = c .before .before .before .before .before .before .before .args in
     let part = c .before .before .found2 .given .0 in
-    ap (λ (k : ℕ). take k (drop (part .0) (a .text .now))) (add-sub-cancel-left (part .0) (part .1 .0))
-    ∙ sym (part-told (a .text .now) (a .table .now) (a .wire) .1 (part .0) (part .1 .0) (told (c .before .before)))
+    let start = start-told (a .text .now) (a .table .now) (a .wire) .1 (part .0) (part .1 .0) (told (c .before .before)) in
+    (ap (λ (k : ℕ). take k (drop (part .0) (a .text .now))) (add-sub-cancel-left (part .0) (part .1 .0))
+    ∙ sym (part-told (a .text .now) (a .table .now) (a .wire) .1 (part .0) (part .1 .0) (told (c .before .before))),
+    (refl, add-comm (part .0) (a .text .ptr .1) ∙ ap (λ (k : ℕ). a .text .ptr .1 + k) (sym start)))
 
 pub text-part-spec : {M : Type 1} → statement M
 text-part-spec =

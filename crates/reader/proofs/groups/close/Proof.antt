@@ -1,7 +1,7 @@
 -- `reader::groups::close` meets its contract: a closing parenthesis after an item, else the refusal at its place.
 -- Assumes nothing.
 use native.Mathlib.Omega.{arith}
-use Rattle.listing.proofs.Stepping.{not-true, not-false}
+use borrow.Author.Tests.{not-true, not-false}
 use Rattle.reader.proofs.Closing.{close-at-end, close-at-line, close-empty, close-went}
 use borrow.Author.Needs.{needs}
 use Rattle.reader.proofs.groups.close.Statement.{statement}

@@ -1,7 +1,7 @@
 -- `reader::lines::line_over` meets its contract: past its spaces the line ends, or it is one too many.
 -- Assumes nothing.
 use mathlib.Core.Path.{sym, _∙_}
-use Rattle.listing.proofs.Stepping.{not-true, not-false}
+use borrow.Author.Tests.{not-true, not-false}
 use Rattle.reader.proofs.Ending.{over-stopped, over-went}
 use borrow.Author.Needs.{needs}
 use Rattle.reader.proofs.lines.line_over.Statement.{statement}
