@@ -4,6 +4,7 @@
 --     Numbers       numbers of masks, and the word that has their bits
 --     Names         names of masks, spelled and read
 --     Spelling      symbols as they are spelled and as they are read
+--     Refusing      which runs of bytes are a mask that is not declared
 --     HeaderNames   names in the second header line
 --     HeaderLines   the two header lines
 --     Events        the events of items, and the wires that they make
@@ -30,6 +31,7 @@ pub mod Places
 pub mod Numbers
 pub mod Names
 pub mod Spelling
+pub mod Refusing
 pub mod HeaderNames
 pub mod HeaderLines
 pub mod Events

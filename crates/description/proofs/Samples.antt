@@ -11,6 +11,8 @@
 --     line-counts-refused                output lines too few, a line too many
 --     parentheses-refused, bars-refused  nothing inside, none open, one still open; a bar
 --     symbols-refused                    no such symbol, a share beyond the order, a mask not declared
+--     beginnings-refused                 bytes that only begin as a symbol, or go on after one; a letter of none
+--     refusal-numbers                    the number of each refusal
 --     depths                             16 deep and 17 deep
 --     lengths                            4,096 bytes and 4,097
 use Prim.Native.Nat.{ℕ, _+_}
@@ -28,6 +30,8 @@ use Rattle.description.specs.Header.{orderLine, masksLine, namesFrom}
 use Rattle.description.specs.Listing.{encode}
 use Rattle.description.specs.Run.{Reading, read, turnedDown, refusalNumber, reading, run}
 use Rattle.description.specs.declared.Listed.{Listed}
+use Rattle.description.specs.declared.Refusal.the-variants.{TextTooLong, WrongOrderLine, WrongMasksLine, NoSuchSymbol, MaskNotDeclared}
+use Rattle.description.specs.declared.Refusal.the-variants.{WrongParenthesis, Bar, NestedTooDeep, WrongLineCount, TooManyWires}
 
 abbrev pub bytes : String → List ℕ
 bytes Quoted.[] = []
@@ -189,6 +193,19 @@ pub symbols-refused :
 unfolding orderLine masksLine namesFrom run bit
 symbols-refused = (refl, refl, refl, refl, refl, refl, refl, refl, refl)
 
+pub beginnings-refused :
+    LinesRefused "r1x\na1\n" 4 0
+    × LinesRefused "r633\na1\n" 4 0
+    × LinesRefused "a0 r\na1\n" 4 3
+    × LinesRefused "a0 s\na1\n" 4 3
+    × LinesRefused "a0 s0\na1\n" 4 3
+    × LinesRefused "a0 a\na1\n" 4 3
+    × LinesRefused "a0 b\na1\n" 4 3
+    × LinesRefused "a0 x\na1\n" 4 3
+    × LinesRefused "a0,b0\na1\n" 4 0
+unfolding orderLine masksLine namesFrom run bit
+beginnings-refused = (refl, refl, refl, refl, refl, refl, refl, refl, refl)
+
 pub depths :
     Parts (lines "((((((((((((((((a0))))))))))))))))\na1\n") ("a0" ∷ "a0" ∷ "a1" ∷ "a1" ∷ [])
     × LinesRefused "(((((((((((((((((a0)))))))))))))))))\na1\n" 8 16
@@ -202,3 +219,9 @@ pub lengths :
     × (answer (reading (lines "a0\na1\n" ++ replicate 4067 space)) ≡ 1 ∷ 1 ∷ 4 ∷ [])
 unfolding orderLine masksLine namesFrom run bit
 lengths = (refl, refl, refl, refl)
+
+pub refusal-numbers : map refusalNumber
+    (TextTooLong ∷ WrongOrderLine ∷ WrongMasksLine ∷ NoSuchSymbol ∷ MaskNotDeclared ∷ WrongParenthesis ∷ Bar ∷ NestedTooDeep ∷ WrongLineCount
+    ∷ TooManyWires ∷ [])
+    ≡ 1 ∷ 2 ∷ 3 ∷ 4 ∷ 5 ∷ 6 ∷ 7 ∷ 8 ∷ 9 ∷ 10 ∷ []
+refusal-numbers = refl

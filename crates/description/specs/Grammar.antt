@@ -1,5 +1,5 @@
--- The grammar (scope, "The description text" and "Wires"): which texts spell which description, and which wires a description has. It knows
--- nothing of how a text is read.
+-- The grammar (scope, "The description text" and "Wires"): which texts spell which description, and which wires a description has. It knows no
+-- order of reading and no refusal; with the run it shares the limits, the spelling of symbols, and what a symbol's and an outer wire are.
 --     Items                    the items of a group, left to right, each with its place
 --     Description              order, declared masks, and the groups of the output lines
 --     Byte, Bytes              a byte, a run of bytes of the text at a place

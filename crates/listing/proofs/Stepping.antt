@@ -18,7 +18,7 @@ use Rattle.records.specs.Layout.{plusSum}
 use Rattle.records.specs.declared.sums.Sum.{Sum}
 use Rattle.description.specs.Symbols.{symbolSum, symbolLength, isIn}
 use Rattle.description.specs.Listing.{symbolWire, madeOuter, outerWire, emptyGroup, additionWire}
-use Rattle.description.specs.Run.{Around, State, placed, used, put, took, symbolItem, lineDone, newestOuter}
+use Rattle.description.specs.Run.{Around, State, used, put, took, symbolItem, lineDone, newestOuter}
 use Rattle.description.specs.declared.Symbol.{Symbol}
 use Rattle.description.specs.declared.Symbol.the-variants.{Product, ShareA, ShareB, Mask}
 use Rattle.description.specs.declared.PlacedSymbol.{PlacedSymbol}
@@ -149,15 +149,12 @@ module _ (table : List ℕ) (p : Progress) (item : Item) where
       Lists table (p .wires) table′ (record { sum = s; outer = false; line = 0; offset = p .group .first; length = item .end - p .group .first }))
       et lists))
 
-pub took-step : (t₀ t₁ t₂ : List ℕ) (p q r : Progress) (symbol : Symbol) (item : Item) → q ≡ usedProgress (placed (p .at) symbol) p
-    → Follows t₀ p t₁ q (used (placed (p .at) symbol)) → item ≡ symbolItem (placed (p .at) symbol) → r ≡ putProgress item q
-    → Follows t₁ q t₂ r (put item) → Step t₀ p t₂ r (tookProgress symbol p) (took (placed (p .at) symbol))
+pub took-step : (t₀ t₁ t₂ : List ℕ) (p q r : Progress) (known : PlacedSymbol) (item : Item) → q ≡ usedProgress known p
+    → Follows t₀ p t₁ q (used known) → item ≡ symbolItem known → r ≡ putProgress item q → Follows t₁ q t₂ r (put item)
+    → Step t₀ p t₂ r (tookProgress known p) (took known)
 unfolding Follows
-took-step t₀ t₁ t₂ p q r symbol item eq f ei er g = (
-  er ∙ ap₂ putProgress ei eq,
-  λ s stands.
-      subst (λ (i : Item). Stands t₂ r (put i (used (placed (p .at) symbol) s))) ei (g (used (placed (p .at) symbol) s) (f s stands)),
-)
+took-step t₀ t₁ t₂ p q r known item eq f ei er g =
+    (er ∙ ap₂ putProgress ei eq, λ s stands. subst (λ (i : Item). Stands t₂ r (put i (used known s))) ei (g (used known s) (f s stands)))
 
 module _ (table : List ℕ) (p : Progress) where
   follows-line : (table′ : List ℕ) → (p .added ≡ true → MakesOuter table (p .wires) table′ (p .lines))

@@ -14,7 +14,7 @@ use Rattle.basics.specs.Folds.{oneIf}
 use Rattle.records.specs.Layout.{recordBytes, plusSum}
 use Rattle.description.specs.Symbols.{symbolSum, isIn}
 use Rattle.description.specs.Listing.{maxWires, recordsOf, putInto, emptyGroup}
-use Rattle.description.specs.Run.{Around, State, placed, symbolItem, newestOuter}
+use Rattle.description.specs.Run.{Around, State, symbolItem, newestOuter}
 use Rattle.description.specs.declared.Symbol.{Symbol}
 use Rattle.description.specs.declared.Symbol.the-variants.{Product, ShareA, ShareB, Mask}
 use Rattle.description.specs.declared.PlacedSymbol.{PlacedSymbol}
@@ -69,8 +69,8 @@ putProgress item p = record {
   group = putInto (p .group) item;
 }
 
-abbrev pub tookProgress : Symbol → Progress → Progress
-tookProgress symbol p = putProgress (symbolItem (placed (p .at) symbol)) (usedProgress (placed (p .at) symbol) p)
+abbrev pub tookProgress : PlacedSymbol → Progress → Progress
+tookProgress q p = putProgress (symbolItem q) (usedProgress q p)
 
 abbrev pub lineProgress : Progress → Progress
 lineProgress p = record {

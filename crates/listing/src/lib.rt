@@ -6,13 +6,12 @@ ghost use lib.ListN.{length};
 ghost use lib.Seq.{sets};
 ghost use Rattle.basics.specs.Folds.{oneIf};
 ghost use Rattle.description.specs.Listing.{bytesOf, encode, sumBytes, placeBytes, symbolWire, emptyGroup};
-ghost use Rattle.description.specs.Run.{placed, used, put, took, lineDone};
+ghost use Rattle.description.specs.Run.{used, put, took, lineDone};
 ghost use Rattle.listing.specs.Progress.{Small, usedProgress, putProgress, tookProgress, lineProgress, Lists, MakesOuter, Follows};
 use description::Group;
 use description::Item;
 use description::Listed;
 use description::PlacedSymbol;
-use description::Symbol;
 use records::layout::LENGTH_AT;
 use records::layout::LINE_AT;
 use records::layout::MASKS_AT;
@@ -202,18 +201,15 @@ pub fn put_item(table: &mut [u8], progress: Progress, item: Item) -> Progress
     next
 }
 
-// The symbol at the place reached is taken as an item: its wire comes before the addition that takes it.
-pub fn take_symbol(table: &mut [u8], progress: Progress, symbol: Symbol) -> Progress
-    requires { ⌜ (length (now table) ≡ 12288) × (progress .wires < 65535) × Small symbol ⌝ }
-    requires { ⌜ (progress .group .first ≤ progress .at) × (progress .at ≤ 4096) ⌝ }
-    ensures { λ r. ⌜ r ≡ tookProgress symbol progress ⌝ }
-    ensures { λ r. ⌜ Follows (now (table .entry)) progress (now (table .exit)) r (took (placed (progress .at) symbol)) ⌝ }
+// A symbol is taken as an item: its wire comes before the addition that takes it.
+pub fn take_symbol(table: &mut [u8], progress: Progress, known: PlacedSymbol) -> Progress
+    requires { ⌜ (length (now table) ≡ 12288) × (progress .wires < 65535) × Small (known .symbol) ⌝ }
+    requires { ⌜ (progress .group .first ≤ known .place) × (known .place ≤ 4096) ⌝ }
+    ensures { λ r. ⌜ r ≡ tookProgress known progress ⌝ }
+    ensures { λ r. ⌜ Follows (now (table .entry)) progress (now (table .exit)) r (took known) ⌝ }
 {
-    let at = progress.at;
-    let known = PlacedSymbol {
-        place: at,
-        symbol: symbol,
-    };
+    let at = known.place;
+    let symbol = known.symbol;
     let item = Item {
         sum: symbol_sum(symbol),
         from: at,

@@ -124,9 +124,10 @@ module _ (text table : List ℕ) (wire : ℕ) where
 
   pub part-told : ((number : ℕ) → partCheck text table wire ≡ refusal number → textPart text table wire ≡ [])
       × ((offset size : ℕ) → partCheck text table wire ≡ values (offset ∷ size ∷ []) → textPart text table wire ≡ take size (drop offset text))
-  part-told =
-      (part-refused (λ number. []) (λ offset size. take size (drop offset text)),
-      part-given (λ number. []) (λ offset size. take size (drop offset text)))
+  part-told = (
+    part-refused (λ number. []) (λ offset size. take size (drop offset text)),
+    part-given (λ number. []) (λ offset size. take size (drop offset text)),
+  )
 
   pub start-told : ((number : ℕ) → partCheck text table wire ≡ refusal number → partStart text table wire ≡ 0)
       × ((offset size : ℕ) → partCheck text table wire ≡ values (offset ∷ size ∷ []) → partStart text table wire ≡ offset)

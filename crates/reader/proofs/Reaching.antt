@@ -206,7 +206,7 @@ module _ (shares declared : ℕ) (text table : List ℕ) (p : Progress) (few : s
     pub symbol-small : Small symbol
     symbol-small = long .1
 
-    took-within : Within (length text) (tookProgress symbol p)
+    took-within : Within (length text) (tookProgress (placed (p .at) symbol) p)
     took-within =
         let left = length-drop (p .at) text in
         let inside = word-inside (drop (p .at) text) in
@@ -221,7 +221,7 @@ module _ (shares declared : ℕ) (text table : List ℕ) (p : Progress) (few : s
           small = symbol-small;
         }
 
-    pub symbol-went : (table′ : List ℕ) (q : Progress) → q ≡ tookProgress symbol p → Follows table p table′ q (took (placed (p .at) symbol))
+    pub symbol-went : (table′ : List ℕ) (q : Progress) → q ≡ tookProgress (placed (p .at) symbol) p → Follows table p table′ q (took (placed (p .at) symbol))
         → (room : ℕ) → ItemWent shares declared text room table p table′ q
     unfolding Follows
     symbol-went table′ q eq follows room =

@@ -8,6 +8,7 @@ ghost use Rattle.description.specs.Bytes.{parts};
 ghost use Rattle.reader.specs.Going.{Within, Sized, ItemByte, ItemReads, GroupReads, CloseReads, Ends, entered};
 use description::Group;
 use description::Item;
+use description::PlacedSymbol;
 use description::Refusal;
 use description::SymbolAnswer;
 use listing::Progress;
@@ -43,7 +44,13 @@ fn symbol_item(
     match read {
         SymbolAnswer::NoSuch => Answer::Stopped(Refusal::NoSuchSymbol, at),
         SymbolAnswer::NotDeclared => Answer::Stopped(Refusal::MaskNotDeclared, at),
-        SymbolAnswer::Known(symbol) => Answer::Went(take_symbol(table, progress, symbol)),
+        SymbolAnswer::Known(symbol) => {
+            let known = PlacedSymbol {
+                place: at,
+                symbol: symbol,
+            };
+            Answer::Went(take_symbol(table, progress, known))
+        }
     }
 }
 

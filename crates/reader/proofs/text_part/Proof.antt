@@ -67,10 +67,11 @@ returns-2 : tie.Need-returns-2
 returns-2 c =
     let a = c .before .before .before .before .before .before .before .args in
     let part = c .before .before .found2 .given .0 in
-    let start = start-told (a .text .now) (a .table .now) (a .wire) .1 (part .0) (part .1 .0) (told (c .before .before)) in
-    (ap (λ (k : ℕ). take k (drop (part .0) (a .text .now))) (add-sub-cancel-left (part .0) (part .1 .0))
-    ∙ sym (part-told (a .text .now) (a .table .now) (a .wire) .1 (part .0) (part .1 .0) (told (c .before .before))),
-    (refl, add-comm (part .0) (a .text .ptr .1) ∙ ap (λ (k : ℕ). a .text .ptr .1 + k) (sym start)))
+    let start = start-told (a .text .now) (a .table .now) (a .wire) .1 (part .0) (part .1 .0) (told (c .before .before)) in (
+      ap (λ (k : ℕ). take k (drop (part .0) (a .text .now))) (add-sub-cancel-left (part .0) (part .1 .0))
+          ∙ sym (part-told (a .text .now) (a .table .now) (a .wire) .1 (part .0) (part .1 .0) (told (c .before .before))),
+      (refl, add-comm (part .0) (a .text .ptr .1) ∙ ap (λ (k : ℕ). a .text .ptr .1 + k) (sym start)),
+    )
 
 pub text-part-spec : {M : Type 1} → statement M
 text-part-spec =
