@@ -7,6 +7,7 @@
 --     single-symbols, symbols-again      a symbol alone on its line; symbols used again, and cancelled
 --     parted-by-parentheses              a parenthesis parts symbols as a space does
 --     lines-skipped                      blank lines, and a last line without its end
+--     orders-read                        orders 2 and 7, and which mask counts
 --     headers-refused                    a header line that is wrong or absent
 --     line-counts-refused                output lines too few, a line too many
 --     parentheses-refused, bars-refused  nothing inside, none open, one still open; a bar
@@ -126,12 +127,19 @@ pub lines-skipped : Parts (lines "\n  \n a0  b0 \n\na1(b1)") ("a0" ∷ "b0" ∷ 
 unfolding orderLine masksLine namesFrom run bit
 lines-skipped = (refl, refl)
 
--- ---- texts that are turned down
-
 -- the number and the offset of a refusal; the order, mask count and wire count of a text that is read
 abbrev answer : Reading → List ℕ
 answer (read order masks ws) = order ∷ masks ∷ length ws ∷ []
 answer (turnedDown why at) = refusalNumber why ∷ at ∷ []
+
+-- masks in any order, the highest counted; every order up to the seventh
+pub orders-read :
+    (answer (reading (bytes "ORDER = 2\nMASKS = [r5, r12, r0]\na0 r12\na1 r5\na2\n")) ≡ 2 ∷ 13 ∷ 8 ∷ [])
+    × (answer (reading (bytes "ORDER = 7\nMASKS = [r63]\na0\na1\na2\na3\na4\na5\na6\ns77\n")) ≡ 7 ∷ 64 ∷ 16 ∷ [])
+unfolding orderLine masksLine namesFrom run bit
+orders-read = (refl, refl)
+
+-- ---- texts that are turned down
 
 abbrev Refused : List ℕ → ℕ → ℕ → Type 0
 Refused text number at = answer (reading text) ≡ number ∷ at ∷ []
@@ -142,7 +150,9 @@ LinesRefused s number at = Refused (lines s) number (23 + at)
 
 pub headers-refused :
     Refused (bytes "") 2 0
+    × Refused (bytes "ORDER = 0\nMASKS = []\n") 2 0
     × Refused (bytes "ORDER = 8\nMASKS = []\n") 2 0
+    × Refused (bytes "ORDER = 10\nMASKS = []\n") 2 0
     × Refused (bytes "ORDER = 1 \nMASKS = []\n") 2 0
     × Refused (bytes "ORDER = 1") 3 9
     × Refused (bytes "ORDER = 1\n") 3 10
@@ -150,8 +160,14 @@ pub headers-refused :
     × Refused (bytes "ORDER = 1\nMASKS = [r1,r0]\n") 3 10
     × Refused (bytes "ORDER = 1\nMASKS = [r1, r0, r1]\n") 3 10
     × Refused (bytes "ORDER = 1\nMASKS = [r64]\n") 3 10
+    × Refused (bytes "ORDER = 1\nMASKS = []a0\na1\n") 3 10
+    × Refused (bytes "ORDER = 1\nMASKS = [] \na0\na1\n") 3 10
+    × Refused (bytes "ORDER = 1\nMASKS = [r0] \na0\na1\n") 3 10
+    × Refused (bytes "ORDER = 1\nMASKS = [r0, ]\n") 3 10
+    × Refused (bytes "ORDER = 1\nMASKS = [r0") 3 10
+    × Refused (bytes "ORDER = 1\n\nMASKS = []\n") 3 10
 unfolding orderLine masksLine namesFrom run bit
-headers-refused = (refl, refl, refl, refl, refl, refl, refl, refl, refl)
+headers-refused = (refl, refl, refl, refl, refl, refl, refl, refl, refl, refl, refl, refl, refl, refl, refl, refl, refl)
 
 -- at the text's length; at the line's first byte that is no space, whatever that byte is
 pub line-counts-refused :
@@ -172,8 +188,9 @@ pub parentheses-refused :
     × LinesRefused "a0)\na1\n" 6 2
     × LinesRefused "(a0\na1)\n" 6 3
     × LinesRefused "a0\n(a1" 6 6
+    × LinesRefused "(a0" 6 3
 unfolding orderLine masksLine namesFrom run bit
-parentheses-refused = (refl, refl, refl, refl, refl)
+parentheses-refused = (refl, refl, refl, refl, refl, refl)
 
 pub bars-refused : LinesRefused "a0 | b0\na1\n" 7 3 × LinesRefused "a0|b0\na1\n" 7 2
 unfolding orderLine masksLine namesFrom run bit

@@ -116,8 +116,9 @@ table-too-short = refl
 pub refused-untouched :
     Read (bytes "ORDER = 1") (replicate 143 7) (refused 3 9) (replicate 143 7)
     × Read (bytes "ORDER = 1") [] (refused 3 9) []
+    × Read (bytes "ORDER = 1\nMASKS = []\na0\n") [] (refused 9 24) []
 unfolding orderLine masksLine namesFrom run bit
-refused-untouched = (refl, refl)
+refused-untouched = (refl, refl, refl)
 
 -- a line of so many uses of one share, and then a line of one share
 abbrev uses : ℕ → List ℕ
