@@ -1,5 +1,4 @@
 -- Examples, proved by running the definitions (scope, "Report program and examples").
---     bytes                              the bytes of a quoted text, `\n` the line end
 --     textA, textB, textC                the scope's texts
 --     text-A, text-B, text-C             their order, mask count and wires
 --     parts-A, parts-B                   the parts of the text that compute the wires
@@ -18,12 +17,11 @@
 --     lengths                            4,096 bytes and 4,097
 use Prim.Native.Nat.{ℕ, _+_}
 use Prim.Native.String.{String}
-use Prim.Native.String as Quoted
-use Prim.Native.Char.{code}
 use mathlib.Core.Path.{_≡_, refl}
 use mathlib.Core.Bool.{true, false}
 use mathlib.Core.List.{List, [], _∷_, _++_, map}
 use lib.ListN.{length, take, drop, replicate}
+use Rattle.basics.specs.Quoted.{bytes}
 use Rattle.records.specs.Words.{bit}
 use Rattle.description.specs.Bytes.{space}
 use Rattle.description.specs.Symbols.{sumWith}
@@ -33,10 +31,6 @@ use Rattle.description.specs.Run.{Reading, read, turnedDown, refusalNumb
 use Rattle.description.specs.declared.Listed.{Listed}
 use Rattle.description.specs.declared.Refusal.the-variants.{TextTooLong, WrongOrderLine, WrongMasksLine, NoSuchSymbol, MaskNotDeclared}
 use Rattle.description.specs.declared.Refusal.the-variants.{WrongParenthesis, Bar, NestedTooDeep, WrongLineCount, TooManyWires}
-
-abbrev pub bytes : String → List ℕ
-bytes Quoted.[] = []
-bytes (Quoted._∷_ c s) = code c ∷ bytes s
 
 -- ---- texts that are read
 

@@ -20,7 +20,8 @@ use Rattle.records.specs.Words.{bit}
 use Rattle.description.specs.Header.{orderLine, masksLine, namesFrom}
 use Rattle.description.specs.Listing.{bytesOf, encode}
 use Rattle.description.specs.Run.{run}
-use Rattle.description.proofs.Samples.{bytes, textA, textC}
+use Rattle.basics.specs.Quoted.{bytes}
+use Rattle.description.proofs.Samples.{textA, textC}
 use Rattle.reader.specs.Answers.{ReadTold, gives, refused, readText, partCheck, textPart}
 
 -- ---- the text part

@@ -1,0 +1,141 @@
+-- The whole report, by what was told.
+--     part-start, take-few                         the part of a list from its start on, which is no longer than it
+--     shown-few                                    a set that is shown has no more wires than the buffer has room for
+--     holds-said, broken-said, refused-said        what a verdict says
+--     room-read                                    the records of a text that was read are within the table
+--     refused-reported, read-reported              the report on a text that is turned down, and on one that was read
+--     report-short, report-written                 a buffer that is too short, and one that is not
+--     room-refused, room-written                   a report of at most 512 bytes, refused and written
+use Prim.Native.Nat.{ℕ, zero, suc, _+_, _*_, _-_, _≤_, _<_}
+use native.Mathlib.Omega.{arith}
+use mathlib.Core.Path.{_≡_, refl, sym, _∙_, ap, ap₂, subst}
+use mathlib.Core.Bool.{Bool, true, false, cond}
+use mathlib.Core.List.{List, [], _∷_, _++_}
+use lib.Dec.{ltb}
+use lib.ListN.{length, take, drop}
+use lib.Seq.{take-length, take-all}
+use borrow.Author.Tests.{lt-ltb, le-ltb}
+use Rattle.basics.specs.Quoted.{bytes}
+use Rattle.basics.specs.Told.{Lent, values, turnedDown}
+use Rattle.records.specs.Layout.{recordBytes}
+use Rattle.description.specs.Run as description
+use Rattle.reader.specs.declared.ReadAnswer.{ReadAnswer}
+use Rattle.reader.specs.Answers.{ReadLent, readTold, readText}
+use Rattle.reader.specs.Reads.{ReadsGrammar}
+use Rattle.verdict.specs.declared.Refusal.{Refusal}
+use Rattle.verdict.specs.declared.VerdictAnswer.{VerdictAnswer}
+use Rattle.verdict.specs.Answers as verdicts
+use Rattle.verdict.specs.Guarantee.{Guarantee}
+use Rattle.description.specs.declared.Refusal as reading
+use Rattle.report_text.specs.declared.Refusal as report-texts
+use Rattle.report_text.specs.declared.ReportAnswer.{ReportAnswer}
+use Rattle.report_text.specs.Decimal.{decimal}
+use Rattle.report_text.specs.Page.{Wrote}
+use Rattle.report_text.specs.Report.{wireNumbers, verdictSaid, orderLine, checked, refusedLine, emptyTable, readReported, report, reportText, maxReport, RoomEnough}
+use Rattle.report_text.proofs.Writing.{wrote-after}
+
+part-start : (n : ℕ) (l : List ℕ) → take (n - 0) l ≡ take n l
+part-start n l = let e : n - 0 ≡ n = omega arith in ap {B = List ℕ} (λ k. take k l) e
+
+take-few : (n : ℕ) (l : List ℕ) → length (take n l) ≤ length l
+take-few zero l = omega arith
+take-few (suc n) [] = omega arith
+take-few (suc n) (x ∷ l) = let h = take-few n l in omega (arith, h)
+
+module _ (answer : VerdictAnswer) (held : List ℕ) (lent : Lent) (told : verdicts.verdictTold answer held ≡ lent) where
+  pub shown-few : (table : List ℕ) (shares masks notion order size : ℕ) → answer ≡ VerdictAnswer.Broken size
+      → Guarantee answer table shares masks notion order held → size ≤ length held
+  shown-few table shares masks notion order size e g = omega (arith, g .broken-shows size e .whole, take-few size held)
+
+  module _ (page : List ℕ) (at : ℕ) (after : List ℕ) (end : ℕ) where
+    told-said : (of : VerdictAnswer) → answer ≡ of → Wrote page at (verdictSaid (verdicts.verdictTold of held)) after end
+        → Wrote page at (verdictSaid lent) after end
+    told-said of e w =
+        subst (λ (l : Lent). Wrote page at (verdictSaid l) after end) (ap (λ (a : VerdictAnswer). verdicts.verdictTold a held) (sym e) ∙ told) w
+
+    pub holds-said : answer ≡ VerdictAnswer.Holds → Wrote page at (bytes " holds") after end → Wrote page at (verdictSaid lent) after end
+    holds-said e w = told-said VerdictAnswer.Holds e w
+
+    pub broken-said : (size : ℕ) (mid : List ℕ) (next : ℕ) → answer ≡ VerdictAnswer.Broken size → Wrote page at (bytes " broken") mid next
+        → Wrote mid next (wireNumbers (take (size - 0) held)) after end → Wrote page at (verdictSaid lent) after end
+    broken-said size mid next e w x =
+        told-said (VerdictAnswer.Broken size) e
+        (wrote-after page at (bytes " broken") mid next (wireNumbers (take size held)) after end w
+        (subst (λ (l : List ℕ). Wrote mid next (wireNumbers l) after end) (part-start size held) x))
+
+    pub refused-said : (why : Refusal) (number : ℕ) → answer ≡ VerdictAnswer.Refused why → number ≡ verdicts.refusalNumber why
+        → Wrote page at (bytes " refused " ++ decimal number) after end → Wrote page at (verdictSaid lent) after end
+    refused-said why number e f w =
+        told-said (VerdictAnswer.Refused why) e (subst (λ (n : ℕ). Wrote page at (bytes " refused " ++ decimal n) after end) f w)
+
+-- ---- what was read
+
+module _ (answer : ReadAnswer) (text held : List ℕ) where
+  pub room-read : (room order shares masks wires : ℕ) → ReadsGrammar answer text room held → answer ≡ ReadAnswer.Read order shares masks wires
+      → recordBytes * wires ≤ room
+  room-read room order shares masks wires g e =
+      let readable = g .read-exactly .0 (λ why offset f. apart why offset (sym e ∙ f)) in
+      let count = g .read-gives order shares masks wires e (readable .description) (readable .spells) .same-count in
+      omega (arith, count, readable .table-room)
+    where
+      apart : (why : reading.Refusal) (offset : ℕ) → ReadAnswer.Read order shares masks wires ≡ ReadAnswer.Refused why offset → ⊥
+      apart why offset e = let z : _≡_ {A = ℕ} 0 1 = cc in omega (arith, z)
+
+  module _ (page after : List ℕ) (end : ℕ) (told : readTold answer held ≡ readText text emptyTable) where
+    told-reported : (of : ReadAnswer) → answer ≡ of → Wrote page 0 (readReported (readTold of held)) after end → Wrote page 0 (report text) after end
+    unfolding report
+    told-reported of e w =
+        subst (λ (l : ReadLent). Wrote page 0 (readReported l) after end) (ap (λ (a : ReadAnswer). readTold a held) (sym e) ∙ told) w
+
+    pub refused-reported : (why : reading.Refusal) (number offset : ℕ) → answer ≡ ReadAnswer.Refused why offset
+        → number ≡ description.refusalNumber why → Wrote page 0 (refusedLine number offset) after end → Wrote page 0 (report text) after end
+    refused-reported why number offset e f w =
+        told-reported (ReadAnswer.Refused why offset) e (subst (λ (n : ℕ). Wrote page 0 (refusedLine n offset) after end) f w)
+
+    pub read-reported : (order shares masks wires : ℕ) (mid : List ℕ) (next : ℕ) → answer ≡ ReadAnswer.Read order shares masks wires
+        → Wrote page 0 (orderLine order shares masks wires) mid next
+        → Wrote mid next (checked (take (recordBytes * wires - 0) held) order shares masks) after end → Wrote page 0 (report text) after end
+    read-reported order shares masks wires mid next e w x =
+        told-reported (ReadAnswer.Read order shares masks wires) e
+        (wrote-after page 0 (orderLine order shares masks wires) mid next (checked (take (recordBytes * wires) held) order shares masks) after end w
+        (subst (λ (l : List ℕ). Wrote mid next (checked l order shares masks) after end) (part-start (recordBytes * wires) held) x))
+
+-- ---- the entry
+
+abbrev shown : List ℕ → List ℕ → Lent
+shown report buffer = record { told = values (length report ∷ []); held = verdicts.written report buffer }
+
+module _ (text buffer blank page : List ℕ) (end : ℕ) (wrote : Wrote blank 0 (report text) page end) where
+  pub report-short : length buffer < end → turnedDown 16 buffer ≡ reportText text buffer
+  report-short h =
+      let size = wrote .end-is in
+      ap (λ (b : Bool). cond b (turnedDown 16 buffer) (shown (report text) buffer))
+      (sym (lt-ltb (length buffer) (length (report text)) (omega (arith, h, size))))
+
+  pub report-written : (held : List ℕ) → end ≤ length buffer
+      → held ≡ take (length (take (end - 0) page)) (take (end - 0) page) ++ drop (length (take (end - 0) page)) buffer
+      → record { told = values (end ∷ []); held = held } ≡ reportText text buffer
+  report-written held h e =
+      let size : end ≡ length (report text) = omega (arith, wrote .end-is) in
+      let page-is : take (end - 0) page ≡ report text = part-start end page ∙ wrote .stands in
+      let held-is : held ≡ verdicts.written (report text) buffer =
+      e ∙ ap (λ (l : List ℕ). take (length l) l ++ drop (length l) buffer) page-is
+      ∙ ap (λ (l : List ℕ). l ++ drop (length (report text)) buffer) (take-length (report text)) in
+      ap₂ (λ (n : ℕ) (l : List ℕ). record { told = values (n ∷ []); held = l }) size held-is
+      ∙ ap (λ (b : Bool). cond b (turnedDown 16 buffer) (shown (report text) buffer))
+      (sym (le-ltb (length buffer) (length (report text)) (omega (arith, h, size))))
+
+apart : (why : report-texts.Refusal) (size : ℕ) → ReportAnswer.Refused why ≡ ReportAnswer.Written size → ⊥
+apart why size e = let z : _≡_ {A = ℕ} 0 1 = cc in omega (arith, z)
+
+pub room-refused : (why : report-texts.Refusal) (room end : ℕ) → end ≤ maxReport → room < end → RoomEnough (ReportAnswer.Refused why) room
+room-refused why room end few short = record {
+  short = λ size e. absurd (apart why size e);
+  enough = λ other e. omega (arith, few, short);
+}
+
+pub room-written : (room end : ℕ) → end ≤ maxReport → RoomEnough (ReportAnswer.Written end) room
+room-written room end few = record {
+  short = λ size e. let f : size ≡ end = cc in omega (arith, few, f);
+  enough = λ why e. absurd (apart why end (sym e));
+}

@@ -1,0 +1,112 @@
+-- `report_text::lines::function_line` meets its contract: the name goes by the first function that the check says yes to.
+-- Assumes nothing.
+use native.Mathlib.Omega.{arith}
+use mathlib.Core.Path.{sym, _∙_}
+use mathlib.Core.Bool.{true, false}
+use Rattle.report_text.proofs.Saying.{wrote-product, wrote-sum, wrote-last}
+use borrow.Author.Needs.{needs}
+use Rattle.report_text.proofs.lines.function_line.Statement.{statement}
+use Rattle.report_text.proofs.lines.function_line.Tie as tie
+
+computes-requires : tie.Need-computes-requires
+computes-requires c κs = search needs
+
+slice-aggregate-write-text : tie.Need-slice-aggregate-write-text
+slice-aggregate-write-text c = search needs
+
+write-text-requires : tie.Need-write-text-requires
+write-text-requires c κs = search needs
+
+same-length : tie.Need-same-length
+same-length c = search needs
+
+returns : tie.Need-returns
+returns c =
+    let a = c .before .before .before .before .before .before .before .before .before .args in (
+      wrote-product (a .page .now) (a .at) _ _ (a .table .now) (a .shares) (a .masks) (sym (c .before .before .before .before .before .before .computes .ensures) ∙ c .before .before .before .before .before .if1 .taken) (c .before .before .write-text .ensures .0),
+      omega (arith, c .before .before .write-text .ensures .1),
+    )
+
+computes-requires-2 : tie.Need-computes-requires-2
+computes-requires-2 c κs = search needs
+
+slice-aggregate-write-text-2 : tie.Need-slice-aggregate-write-text-2
+slice-aggregate-write-text-2 c = search needs
+
+write-text-requires-2 : tie.Need-write-text-requires-2
+write-text-requires-2 c κs = search needs
+
+same-length-2 : tie.Need-same-length-2
+same-length-2 c = search needs
+
+returns-2 : tie.Need-returns-2
+returns-2 c =
+    let a = c .before .before .before .before .before .before .before .before .before .before .before .args in (
+      wrote-sum (a .page .now) (a .at) _ _ (a .table .now) (a .shares) (a .masks)
+          (sym (c .before .before .before .before .before .before .before .before .computes .ensures) ∙ c .before .before .before .before .before .before .before .if1 .left)
+          (sym (c .before .before .before .before .before .before .computes2 .ensures) ∙ c .before .before .before .before .before .if2 .taken) (c .before .before .write-text2 .ensures .0),
+      omega (arith, c .before .before .write-text2 .ensures .1),
+    )
+
+computes-requires-3 : tie.Need-computes-requires-3
+computes-requires-3 c κs = search needs
+
+slice-aggregate-write-text-3 : tie.Need-slice-aggregate-write-text-3
+slice-aggregate-write-text-3 c = search needs
+
+write-text-requires-3 : tie.Need-write-text-requires-3
+write-text-requires-3 c κs = search needs
+
+same-length-3 : tie.Need-same-length-3
+same-length-3 c = search needs
+
+returns-3 : tie.Need-returns-3
+returns-3 c =
+    let a = c .before .before .before .before .before .before .before .before .before .before .before .before .before .args in (
+      wrote-last (a .page .now) (a .at) _ _ (a .table .now) (a .shares) (a .masks) true
+          (sym (c .before .before .before .before .before .before .before .before .before .before .computes .ensures) ∙ c .before .before .before .before .before .before .before .before .before .if1 .left)
+          (sym (c .before .before .before .before .before .before .before .before .computes2 .ensures) ∙ c .before .before .before .before .before .before .before .if2 .left) (sym (c .before .before .before .before .before .before .computes3 .ensures) ∙ c .before .before .before .before .before .if3 .taken) (c .before .before .write-text3 .ensures .0),
+      omega (arith, c .before .before .write-text3 .ensures .1),
+    )
+
+slice-aggregate-write-text-4 : tie.Need-slice-aggregate-write-text-4
+slice-aggregate-write-text-4 c = search needs
+
+write-text-requires-4 : tie.Need-write-text-requires-4
+write-text-requires-4 c κs = search needs
+
+same-length-4 : tie.Need-same-length-4
+same-length-4 c = search needs
+
+returns-4 : tie.Need-returns-4
+returns-4 c =
+    let a = c .before .before .before .before .before .before .before .before .before .before .before .before .before .args in (
+      wrote-last (a .page .now) (a .at) _ _ (a .table .now) (a .shares) (a .masks) false
+          (sym (c .before .before .before .before .before .before .before .before .before .before .computes .ensures) ∙ c .before .before .before .before .before .before .before .before .before .if1 .left)
+          (sym (c .before .before .before .before .before .before .before .before .computes2 .ensures) ∙ c .before .before .before .before .before .before .before .if2 .left) (sym (c .before .before .before .before .before .before .computes3 .ensures) ∙ c .before .before .before .before .before .if3 .left) (c .before .before .write-text4 .ensures .0),
+      omega (arith, c .before .before .write-text4 .ensures .1),
+    )
+
+pub function-line-spec : {M : Type 1} → statement M
+function-line-spec =
+    tie.close
+    (tie.spec
+    computes-requires
+    slice-aggregate-write-text
+    write-text-requires
+    same-length
+    returns
+    computes-requires-2
+    slice-aggregate-write-text-2
+    write-text-requires-2
+    same-length-2
+    returns-2
+    computes-requires-3
+    slice-aggregate-write-text-3
+    write-text-requires-3
+    same-length-3
+    returns-3
+    slice-aggregate-write-text-4
+    write-text-requires-4
+    same-length-4
+    returns-4)

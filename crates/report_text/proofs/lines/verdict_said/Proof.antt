@@ -1,0 +1,117 @@
+-- `report_text::lines::verdict_said` meets its contract: it says what the verdict's answer tells.
+-- Assumes nothing.
+use native.Mathlib.Omega.{arith}
+use Rattle.report_text.proofs.Reporting.{shown-few, holds-said, broken-said, refused-said}
+use borrow.Author.Needs.{needs}
+use Rattle.report_text.proofs.lines.verdict_said.Statement.{statement}
+use Rattle.report_text.proofs.lines.verdict_said.Tie as tie
+
+slice-aggregate-verdict : tie.Need-slice-aggregate-verdict
+slice-aggregate-verdict c = search needs
+
+verdict-requires : tie.Need-verdict-requires
+verdict-requires c κs = search needs
+
+enum-told : tie.Need-enum-told
+enum-told c = search needs
+
+slice-aggregate-write-text : tie.Need-slice-aggregate-write-text
+slice-aggregate-write-text c = search needs
+
+write-text-requires : tie.Need-write-text-requires
+write-text-requires c κs = search needs
+
+enum-known-answer : tie.Need-enum-known-answer
+enum-known-answer c = search needs
+
+slice-aggregate-write-text-2 : tie.Need-slice-aggregate-write-text-2
+slice-aggregate-write-text-2 c = search needs
+
+write-text-requires-2 : tie.Need-write-text-requires-2
+write-text-requires-2 c κs = search needs
+
+sub-write-wires : tie.Need-sub-write-wires
+sub-write-wires c = search needs
+
+part-write-wires-start : tie.Need-part-write-wires-start
+part-write-wires-start c = search needs
+
+part-write-wires-end : tie.Need-part-write-wires-end
+part-write-wires-end c =
+    let few = shown-few _ _ _ (c .before .before .before .before .before .before .before .before .before .before .before .verdict .ensures .0) _ _ _ _ _ _ (c .before .before .before .before .before .before .before .before .answer .given .1) (c .before .before .before .before .before .before .before .before .before .before .before .verdict .ensures .1 .1) in
+    search needs
+
+write-wires-requires : tie.Need-write-wires-requires
+write-wires-requires c κs =
+    let few = shown-few _ _ _ (c .before .before .before .before .before .before .before .before .before .before .before .before .verdict .ensures .0) _ _ _ _ _ _ (c .before .before .before .before .before .before .before .before .before .answer .given .1) (c .before .before .before .before .before .before .before .before .before .before .before .before .verdict .ensures .1 .1) in
+    search needs
+
+enum-known-answer-2 : tie.Need-enum-known-answer-2
+enum-known-answer-2 c = search needs
+
+slice-aggregate-write-named : tie.Need-slice-aggregate-write-named
+slice-aggregate-write-named c = search needs
+
+number-requires : tie.Need-number-requires
+number-requires c κs = search needs
+
+write-named-requires : tie.Need-write-named-requires
+write-named-requires c κs = search needs
+
+same-length : tie.Need-same-length
+same-length c = search needs
+
+returns : tie.Need-returns
+returns c =
+    let a = c .before .before .before .before .before .before .before .before .before .before .before .before .args in
+    let end = c .before .before .write-text .ensures in
+    (holds-said _ _ _ (c .before .before .before .before .before .before .before .before .verdict .ensures .0) (a .page .now) (a .at) _ _ (c .before .before .before .before .before .enum-told .given .1) (end .0), omega (arith, end .1))
+
+same-length-2 : tie.Need-same-length-2
+same-length-2 c = search needs
+
+returns-2 : tie.Need-returns-2
+returns-2 c =
+    let a = c .before .before .before .before .before .before .before .before .before .before .before .before .before .before .before .before .before .before .before .args in
+    let next = c .before .before .before .before .before .before .before .before .write-text2 .ensures in
+    let end = c .before .before .write-wires .ensures in
+    let few = shown-few _ _ _ (c .before .before .before .before .before .before .before .before .before .before .before .before .before .before .before .verdict .ensures .0) _ _ _ _ _ _ (c .before .before .before .before .before .before .before .before .before .before .before .before .answer .given .1) (c .before .before .before .before .before .before .before .before .before .before .before .before .before .before .before .verdict .ensures .1 .1) in
+    (broken-said _ _ _ (c .before .before .before .before .before .before .before .before .before .before .before .before .before .before .before .verdict .ensures .0) (a .page .now) (a .at) _ _ _ _ _ (c .before .before .before .before .before .before .before .before .before .before .before .before .answer .given .1) (next .0) (end .0), search needs)
+
+same-length-3 : tie.Need-same-length-3
+same-length-3 c = search needs
+
+returns-3 : tie.Need-returns-3
+returns-3 c =
+    let a = c .before .before .before .before .before .before .before .before .before .before .before .before .before .before .args in
+    let end = c .before .before .write-named .ensures in (
+      refused-said _ _ _ (c .before .before .before .before .before .before .before .before .before .before .verdict .ensures .0) (a .page .now) (a .at) _ _ _ _ (c .before .before .before .before .before .before .before .answer2 .given .1) (c .before .before .before .number .ensures) (end .0),
+      omega (arith, end .1),
+    )
+
+pub verdict-said-spec : {M : Type 1} → statement M
+verdict-said-spec =
+    tie.close
+    (tie.spec
+    slice-aggregate-verdict
+    verdict-requires
+    enum-told
+    slice-aggregate-write-text
+    write-text-requires
+    enum-known-answer
+    slice-aggregate-write-text-2
+    write-text-requires-2
+    sub-write-wires
+    part-write-wires-start
+    part-write-wires-end
+    write-wires-requires
+    enum-known-answer-2
+    slice-aggregate-write-named
+    number-requires
+    write-named-requires
+    same-length
+    returns
+    same-length-2
+    returns-2
+    same-length-3
+    returns-3)

@@ -1,0 +1,174 @@
+// The lines of a report, each written to a page where the one before it ends.
+ghost use mathlib.Core.Path.{_≡_};
+ghost use Prim.Native.Nat.{_≤_, _<_, _+_};
+ghost use mathlib.Core.List.{_++_};
+ghost use lib.ListN.{length};
+ghost use Rattle.table.specs.Answers.{functionCheck};
+ghost use Rattle.verdict.specs.Answers.{verdictOf};
+ghost use Rattle.report_text.specs.Page.{Wrote};
+ghost use Rattle.report_text.specs.Report.{orderLine, saysYes, functionLine, notionName, emptySet, verdictSaid, notionLine, checked, refusedLine, report};
+use crate::page::write_named;
+use crate::page::write_text;
+use crate::page::write_wires;
+use reader::ReadAnswer;
+use records::layout::RECORD_BYTES;
+use sets::MAX_SIZE;
+use table::FunctionAnswer;
+use table::MAX_TABLE_BYTES;
+use verdict::VerdictAnswer;
+
+// The whole report on a text.
+pub fn whole_report(page: &mut [u8], text: &[u8]) -> usize
+    requires { ⌜ length (now page) ≡ 512 ⌝ }
+    ensures { λ r. ⌜ Wrote (now (page .entry)) 0 (report (now (text .entry))) (now (page .exit)) r ⌝ }
+    ensures { λ r. ⌜ r ≤ 512 ⌝ }
+{
+    let mut table = [0u8; MAX_TABLE_BYTES];
+    let read = reader::read_text(text, &mut table);
+    match read {
+        ReadAnswer::Refused { why, offset } => refused_line(page, why.number() as usize, offset),
+        ReadAnswer::Read {
+            order,
+            shares,
+            masks,
+            wires,
+        } => {
+            let next = order_line(page, order, shares, masks, wires);
+            checked_lines(
+                page,
+                next,
+                &table[0..RECORD_BYTES * wires],
+                order,
+                shares,
+                masks,
+            )
+        }
+    }
+}
+
+// The line of a text that is turned down.
+fn refused_line(page: &mut [u8], number: usize, offset: usize) -> usize
+    requires { ⌜ 64 ≤ length (now page) ⌝ }
+    ensures { λ r. ⌜ Wrote (now (page .entry)) 0 (refusedLine number offset) (now (page .exit)) r ⌝ }
+    ensures { λ r. ⌜ r ≤ 64 ⌝ }
+{
+    let first = write_named(page, 0, b"refused ", number);
+    let second = write_named(page, first, b" at ", offset);
+    write_text(page, second, b"\n")
+}
+
+// Order, shares, mask count and wire count.
+fn order_line(page: &mut [u8], order: usize, shares: usize, masks: usize, wires: usize) -> usize
+    requires { ⌜ 128 ≤ length (now page) ⌝ }
+    ensures { λ r. ⌜ Wrote (now (page .entry)) 0 (orderLine order shares masks wires) (now (page .exit)) r ⌝ }
+    ensures { λ r. ⌜ r ≤ 128 ⌝ }
+{
+    let first = write_named(page, 0, b"order ", order);
+    let second = write_named(page, first, b" shares ", shares);
+    let third = write_named(page, second, b" masks ", masks);
+    let fourth = write_named(page, third, b" wires ", wires);
+    write_text(page, fourth, b"\n")
+}
+
+// The function and both verdicts.
+fn checked_lines(
+    page: &mut [u8],
+    at: usize,
+    table: &[u8],
+    order: usize,
+    shares: usize,
+    masks: usize,
+) -> usize
+    requires { ⌜ at + 384 ≤ length (now page) ⌝ }
+    ensures { λ r. ⌜ Wrote (now (page .entry)) at (checked (now (table .entry)) order shares masks) (now (page .exit)) r ⌝ }
+    ensures { λ r. ⌜ r ≤ at + 384 ⌝ }
+{
+    let first = function_line(page, at, table, shares, masks);
+    let second = notion_line(page, first, table, shares, masks, 1, order);
+    notion_line(page, second, table, shares, masks, 2, order)
+}
+
+// The function is named once it is checked.
+fn function_line(page: &mut [u8], at: usize, table: &[u8], shares: usize, masks: usize) -> usize
+    requires { ⌜ at + 32 ≤ length (now page) ⌝ }
+    ensures { λ r. ⌜ Wrote (now (page .entry)) at (functionLine (now (table .entry)) shares masks) (now (page .exit)) r ⌝ }
+    ensures { λ r. ⌜ r ≤ at + 32 ⌝ }
+{
+    if computes(table, shares, masks, 1) {
+        return write_text(page, at, b"function product\n");
+    }
+    if computes(table, shares, masks, 2) {
+        return write_text(page, at, b"function sum\n");
+    }
+    if computes(table, shares, masks, 3) {
+        return write_text(page, at, b"function copy\n");
+    }
+    write_text(page, at, b"function other\n")
+}
+
+fn computes(table: &[u8], shares: usize, masks: usize, function: usize) -> bool
+    ensures { λ r. ⌜ r ≡ saysYes (functionCheck (now (table .entry)) shares masks function) ⌝ }
+{
+    let answer = table::function_check(table, shares, masks, function);
+    match answer {
+        FunctionAnswer::Yes => true,
+        FunctionAnswer::No => false,
+        FunctionAnswer::Refused(why) => false,
+    }
+}
+
+// The verdict for NI, 1, or SNI, 2, at an order.
+fn notion_line(
+    page: &mut [u8],
+    at: usize,
+    table: &[u8],
+    shares: usize,
+    masks: usize,
+    notion: usize,
+    order: usize,
+) -> usize
+    requires { ⌜ at + 176 ≤ length (now page) ⌝ }
+    ensures { λ r. ⌜ Wrote (now (page .entry)) at (notionLine (now (table .entry)) shares masks notion order) (now (page .exit)) r ⌝ }
+    ensures { λ r. ⌜ r ≤ at + 176 ⌝ }
+{
+    let named = notion_name(page, at, notion);
+    let told = verdict_said(page, named, table, shares, masks, notion, order);
+    write_text(page, told, b"\n")
+}
+
+fn notion_name(page: &mut [u8], at: usize, notion: usize) -> usize
+    requires { ⌜ at + 3 ≤ length (now page) ⌝ }
+    ensures { λ r. ⌜ Wrote (now (page .entry)) at (notionName notion) (now (page .exit)) r ⌝ }
+    ensures { λ r. ⌜ r ≤ at + 3 ⌝ }
+{
+    if notion == 1 {
+        return write_text(page, at, b"NI");
+    }
+    write_text(page, at, b"SNI")
+}
+
+// What a verdict says, with the wire numbers of a set that breaks the notion.
+fn verdict_said(
+    page: &mut [u8],
+    at: usize,
+    table: &[u8],
+    shares: usize,
+    masks: usize,
+    notion: usize,
+    order: usize,
+) -> usize
+    requires { ⌜ at + 160 ≤ length (now page) ⌝ }
+    ensures { λ r. ⌜ Wrote (now (page .entry)) at (verdictSaid (verdictOf (now (table .entry)) shares masks notion order emptySet)) (now (page .exit)) r ⌝ }
+    ensures { λ r. ⌜ r ≤ at + 160 ⌝ }
+{
+    let mut set = [0u16; MAX_SIZE];
+    let answer = verdict::verdict(table, shares, masks, notion, order, &mut set);
+    match answer {
+        VerdictAnswer::Holds => write_text(page, at, b" holds"),
+        VerdictAnswer::Broken { size } => {
+            let next = write_text(page, at, b" broken");
+            write_wires(page, next, &set[0..size])
+        }
+        VerdictAnswer::Refused(why) => write_named(page, at, b" refused ", why.number() as usize),
+    }
+}
