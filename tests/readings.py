@@ -151,7 +151,7 @@ def record(wire):
     return bits("s", 8) + bits("r", 8) + bits("a", 1) + bits("b", 1) + kind + little(wire.start, 2) + little(wire.end - wire.start, 2)
 
 
-def read(text, lent):
+def read(text, lent, lister=Wires):
     """What reading answers, given the text and the length of the lent table."""
     if len(text) > MOST_TEXT:
         return Refusal(1, MOST_TEXT)
@@ -169,7 +169,7 @@ def read(text, lent):
     faults += [(start + len(line) - len(line.lstrip(b" ")), TOO_MANY) for start, line in output[order + 1 :]]
     if len(output) < order + 1:
         faults.append((len(text), TOO_FEW))
-    wires = Wires()
+    wires = lister()
     if not faults:
         for number, line in enumerate(output):
             wires.line(number, tree(*line, order, masks))
@@ -596,4 +596,5 @@ def main():
         sys.exit(__doc__)
 
 
-main()
+if __name__ == "__main__":
+    main()

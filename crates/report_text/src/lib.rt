@@ -8,6 +8,8 @@ ghost use Rattle.report_text.specs.Report.{refusalNumber, reportTold, re
 mod lines;
 mod page;
 
+pub use lines::computes;
+
 // A buffer of so many bytes is never too short.
 pub const MAX_REPORT: usize = 512;
 

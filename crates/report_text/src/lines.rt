@@ -106,7 +106,8 @@ fn function_line(page: &mut [u8], at: usize, table: &[u8], shares: usize, masks:
     write_text(page, at, b"function other\n")
 }
 
-fn computes(table: &[u8], shares: usize, masks: usize, function: usize) -> bool
+// Whether the function check says yes.
+pub fn computes(table: &[u8], shares: usize, masks: usize, function: usize) -> bool
     ensures { λ r. ⌜ r ≡ saysYes (functionCheck (now (table .entry)) shares masks function) ⌝ }
 {
     let answer = table::function_check(table, shares, masks, function);
