@@ -1,0 +1,55 @@
+-- Every starred example of the scope holds: one theorem over the table, computed from the definitions that the contracts cite.
+--     all-append           two parts of a table
+--     computed             the part that is computed by running the definitions
+--     fours, large         the part on 512 wires, whose count is that of a row of Pascal's triangle
+--     all-hold             the theorem
+use Prim.Native.Nat.{ℕ, _*_, _/_, _%_, _^_}
+use native.Mathlib.Omega.{arith}
+use mathlib.Core.Path.{_≡_, refl, ap}
+use mathlib.Core.Bool.{xor}
+use mathlib.Core.List.{List, [], _∷_, _++_}
+use lib.ListN.{take, drop}
+use Rattle.basics.specs.Folds.{upTo}
+use Rattle.basics.specs.Told.{values}
+use Rattle.wires.specs.Wires.{countA, masked, breaks, beyond}
+use Rattle.wires.specs.Function.{computes}
+use Rattle.records.specs.Words.{bit}
+use Rattle.counts.specs.Counts.{binom}
+use Rattle.counts.proofs.Rows.{binom-row}
+use Rattle.sets.specs.Order.{revolving}
+use Rattle.sets.specs.Division.{start}
+use Rattle.description.specs.Header.{orderLine, masksLine, namesFrom}
+use Rattle.description.specs.Listing.{encode}
+use Rattle.description.specs.Run.{run}
+use Rattle.verdict.specs.Search.{searched, isBreaking}
+use Rattle.report_text.specs.Decimal.{decimal}
+use Rattle.report_text.specs.Report.{report}
+use Rattle.examples.specs.Starred.{Case, AllHold, starred}
+
+-- two parts of a table
+all-append : (k l : List Case) → AllHold k → AllHold l → AllHold (k ++ l)
+all-append [] l p q = q
+all-append (c ∷ k) l p q = (p .0, all-append k l (p .1) q)
+
+-- all but the last three are computed by running the definitions
+computed : AllHold (take 11 starred)
+unfolding orderLine masksLine namesFrom run bit encode upTo xor beyond computes breaks countA masked searched isBreaking revolving decimal report binom
+computed = (refl, (refl, (refl, (refl, (refl, (refl, (refl, (refl, (refl, (refl, (refl, tt)))))))))))
+
+fours : binom 512 4 ≡ 2829877120
+fours = binom-row 512 4 (omega arith)
+
+large : AllHold (drop 11 starred)
+large = (
+  ap (λ (all : ℕ). values (all ∷ [])) fours,
+  (
+    ap (λ (all : ℕ). values (start all 16 2 ∷ start all 16 3 ∷ [])) fours,
+    (
+      ap (λ (all : ℕ). values (2 * all % 2 ^ 32 / 16 ∷ [])) fours,
+      tt,
+    ),
+  ),
+)
+
+pub all-hold : AllHold starred
+all-hold = all-append (take 11 starred) (drop 11 starred) computed large

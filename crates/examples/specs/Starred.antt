@@ -1,0 +1,137 @@
+-- The starred examples of the scope ("Report program and examples") in one table: what is asked, and what is to be told.
+--     Asked, asked       a question, and what the definition that the entry's promise cites tells
+--     page, printed      a lent page, and the bytes of the report that it then holds
+--     outers             the numbers of the outer wires of a text that was read
+--     wrapped            where a job would start whose product wraps at 32 bits
+--     written            the set that was written
+--     emptyChecked       the range check of the empty set, in a text's table
+--     Case, Holds, AllHold     a line of the table, that it is so, and that every line of a table is
+--     is, prints         a line; one of a report
+--     textA, textB, textC     the scope's texts
+--     starred            the table
+use Prim.Native.Nat.{ℕ, _*_, _/_, _%_, _^_}
+use mathlib.Core.Path.{_≡_}
+use mathlib.Core.List.{List, [], _∷_}
+use lib.ListN.{take, replicate}
+use Prim.Native.String.{String}
+use Rattle.basics.specs.Folds.{keep, upTo}
+use Rattle.basics.specs.Quoted.{bytes}
+use Rattle.basics.specs.Told.{Told, values, refusal}
+use Rattle.records.specs.Layout.{recordBytes, wireAt}
+use Rattle.counts.specs.Counts.{binom}
+use Rattle.sets.specs.Answers.{setCount, setFromRank, jobRanks}
+use Rattle.verdict.specs.Answers.{rangeCheck}
+use Rattle.reader.specs.Answers.{ReadTold, gives, refused, readText}
+use Rattle.report_text.specs.Report.{emptyTable, emptySet, maxReport, reportText}
+
+-- ---- questions
+
+-- a page that is long enough for every report
+abbrev page : List ℕ
+page = replicate maxReport 0
+
+pub data Asked : Type 0 where
+  -- the report on a text, whole
+  report : List ℕ → Asked
+  -- which wires of a text are outer
+  outerWires : List ℕ → Asked
+  -- how many sets of a size there are out of so many wires
+  setsOf : (wires size : ℕ) → Asked
+  -- the ranks of a job, and where a product of 32 bits would have it start
+  ranksOf : (wires size job jobs : ℕ) → Asked
+  wrappedStart : (wires size job jobs : ℕ) → Asked
+  -- the set at a rank
+  setAt : (wires size rank : ℕ) → Asked
+  -- whether the empty set, the only one of size 0, breaks a notion, in the table of a text
+  emptyBreaks : (text : List ℕ) (notion : ℕ) → Asked
+
+-- the report's bytes, of which there are as many as are told
+abbrev printed : Told → List ℕ → Told
+printed (values []) page = values []
+printed (values (size ∷ more)) page = values (take size page)
+printed (refusal number) page = refusal number
+
+-- of the wires that were read, those that are outer
+abbrev outers : ReadTold → List ℕ → Told
+outers (gives order shares masks wires) table = values (keep (λ wire. wireAt table wire .outer) (upTo wires))
+outers (refused number offset) table = refusal number
+
+-- floor(job × count / jobs), the product cut to 32 bits
+abbrev wrapped : ℕ → ℕ → ℕ → ℕ
+wrapped count job jobs = job * count % 2 ^ 32 / jobs
+
+-- the set that was written, of a size that is known
+abbrev written : ℕ → Told → List ℕ → Told
+written size (values v) buffer = values (take size buffer)
+written size (refusal number) buffer = refusal number
+
+-- the range check of the only set of size 0: clean has no value
+abbrev emptyChecked : ReadTold → List ℕ → ℕ → Told
+emptyChecked (gives order shares masks wires) table notion =
+    rangeCheck (take (recordBytes * wires) table) shares masks notion 0 0 1 emptySet .told
+emptyChecked (refused number offset) table notion = refusal number
+
+-- what the promises of the entries tell
+abbrev pub asked : Asked → Told
+asked (report text) = printed (reportText text page .told) (reportText text page .held)
+asked (outerWires text) = outers (readText text emptyTable .told) (readText text emptyTable .held)
+asked (setsOf wires size) = setCount wires size
+asked (ranksOf wires size job jobs) = jobRanks wires size job jobs
+asked (wrappedStart wires size job jobs) = values (wrapped (binom wires size) job jobs ∷ [])
+asked (setAt wires size rank) = written size (setFromRank wires size rank emptySet .told) (setFromRank wires size rank emptySet .held)
+asked (emptyBreaks text notion) = emptyChecked (readText text emptyTable .told) (readText text emptyTable .held) notion
+
+-- ---- the table
+
+pub record Case : Type 0 where
+  pub question : Asked
+  pub answer : Told
+
+abbrev pub Holds : Case → Type 0
+Holds c = asked (c .question) ≡ c .answer
+
+abbrev pub AllHold : List Case → Type 0
+AllHold [] = Unit {0}
+AllHold (c ∷ l) = Holds c × AllHold l
+
+abbrev is : Asked → Told → Case
+is question answer = record { question = question; answer = answer }
+
+-- a report's lines
+abbrev prints : String → String → Case
+prints text lines = is (report (bytes text)) (values (bytes lines))
+
+abbrev pub textA : String
+textA = "ORDER = 1\nMASKS = [r0]\ns00 r0\ns11 ((r0 s01) s10)\n"
+
+abbrev pub textB : String
+textB = "ORDER = 1\nMASKS = [r0]\ns00 r0\ns11 (s01 s10) r0\n"
+
+abbrev pub textC : String
+textC = "ORDER = 1\nMASKS = []\na0 b0\na1 b1\n"
+
+abbrev pub starred : List Case
+starred =
+    -- text A's whole report; its wires 2 and 8 are outer
+    prints textA "order 1 shares 2 masks 1 wires 9\nfunction product\nNI holds\nSNI holds\n"
+    ∷ is (outerWires (bytes textA)) (values (2 ∷ 8 ∷ []))
+    -- B: NI broken 6, SNI broken 6, product
+    ∷ prints textB "order 1 shares 2 masks 1 wires 9\nfunction product\nNI broken 6\nSNI broken 6\n"
+    -- C: sum, NI holds, SNI broken 2
+    ∷ prints textC "order 1 shares 2 masks 0 wires 6\nfunction sum\nNI holds\nSNI broken 2\n"
+    -- the empty text: 2 at 0; `()` on an output line: 6 at the second byte
+    ∷ prints "" "refused 2 at 0\n"
+    ∷ prints "ORDER = 1\nMASKS = []\n()\na1\n" "refused 6 at 22\n"
+    -- of 24 wires: 276 pairs; job 3 of 7 has ranks 118 to 156
+    ∷ is (setsOf 24 2) (values (276 ∷ []))
+    ∷ is (ranksOf 24 2 3 7) (values (118 ∷ 157 ∷ []))
+    -- rank 1 of pairs is {1,2}
+    ∷ is (setAt 24 2 1) (values (1 ∷ 2 ∷ []))
+    -- the empty set breaks nothing
+    ∷ is (emptyBreaks (bytes textB) 1) (values [])
+    ∷ is (emptyBreaks (bytes textB) 2) (values [])
+    -- 512 wires, size 4: 2,829,877,120 sets; job 2 of 16 starts at 353,734,640, where a 32-bit product would say 85,299,184
+    ∷ is (setsOf 512 4) (values (2829877120 ∷ []))
+    ∷ is (ranksOf 512 4 2 16) (values (353734640 ∷ 530601960 ∷ []))
+    ∷ is (wrappedStart 512 4 2 16) (values (85299184 ∷ []))
+    ∷ []
