@@ -22,8 +22,8 @@ use Rattle.description.specs.Header.{orderLine, masksLine, namesFrom}
 use Rattle.description.specs.Listing.{encode}
 use Rattle.description.specs.Run.{run}
 use Rattle.verdict.specs.Search.{searched, isBreaking}
-use Rattle.report_text.specs.Decimal.{decimal}
-use Rattle.report_text.specs.Report.{report}
+use Rattle.pages.specs.Decimal.{decimal}
+use Rattle.report_text.specs.Report.{functionLine, notionLine, checked, report}
 use Rattle.examples.specs.Starred.{Case, AllHold, starred}
 
 -- two parts of a table
@@ -33,7 +33,7 @@ all-append (c ∷ k) l p q = (p .0, all-append k l (p .1) q)
 
 -- all but the last three are computed by running the definitions
 computed : AllHold (take 11 starred)
-unfolding orderLine masksLine namesFrom run bit encode upTo xor beyond computes breaks countA masked searched isBreaking revolving decimal report binom
+unfolding orderLine masksLine namesFrom run bit encode upTo xor beyond computes breaks countA masked searched isBreaking revolving decimal functionLine notionLine checked report binom
 computed = (refl, (refl, (refl, (refl, (refl, (refl, (refl, (refl, (refl, (refl, (refl, tt)))))))))))
 
 fours : binom 512 4 ≡ 2829877120

@@ -1,9 +1,7 @@
 -- Why the report is what its definition says.
---     Numbers   numbers in base ten
---     Writing   bytes written one run after the other
 --     Saying    names, by what the function check told and by the notion
 --     Reporting the whole report, by what was told
-pub mod Numbers
-pub mod Writing
+--     Meaning   what the report says of a gadget
 pub mod Saying
 pub mod Reporting
+pub mod Meaning

@@ -8,12 +8,11 @@
 --     room-refused, room-written                   a report of at most 512 bytes, refused and written
 use Prim.Native.Nat.{ℕ, zero, suc, _+_, _*_, _-_, _≤_, _<_}
 use native.Mathlib.Omega.{arith}
-use mathlib.Core.Path.{_≡_, refl, sym, _∙_, ap, ap₂, subst}
-use mathlib.Core.Bool.{Bool, true, false, cond}
+use mathlib.Core.Path.{_≡_, sym, _∙_, ap, ap₂, subst}
+use mathlib.Core.Bool.{Bool, cond}
 use mathlib.Core.List.{List, [], _∷_, _++_}
-use lib.Dec.{ltb}
 use lib.ListN.{length, take, drop}
-use lib.Seq.{take-length, take-all}
+use lib.Seq.{take-length}
 use borrow.Author.Tests.{lt-ltb, le-ltb}
 use Rattle.basics.specs.Quoted.{bytes}
 use Rattle.basics.specs.Told.{Lent, values, turnedDown}
@@ -29,10 +28,10 @@ use Rattle.verdict.specs.Guarantee.{Guarantee}
 use Rattle.description.specs.declared.Refusal as reading
 use Rattle.report_text.specs.declared.Refusal as report-texts
 use Rattle.report_text.specs.declared.ReportAnswer.{ReportAnswer}
-use Rattle.report_text.specs.Decimal.{decimal}
-use Rattle.report_text.specs.Page.{Wrote}
-use Rattle.report_text.specs.Report.{wireNumbers, verdictSaid, orderLine, checked, refusedLine, emptyTable, readReported, report, reportText, maxReport, RoomEnough}
-use Rattle.report_text.proofs.Writing.{wrote-after}
+use Rattle.pages.specs.Decimal.{decimal}
+use Rattle.pages.specs.Page.{Wrote, wireNumbers}
+use Rattle.report_text.specs.Report.{verdictSaid, orderLine, checked, refusedLine, emptyTable, readReported, report, reportText, maxReport, RoomEnough}
+use Rattle.pages.proofs.Writing.{wrote-after}
 
 part-start : (n : ℕ) (l : List ℕ) → take (n - 0) l ≡ take n l
 part-start n l = let e : n - 0 ≡ n = omega arith in ap {B = List ℕ} (λ k. take k l) e

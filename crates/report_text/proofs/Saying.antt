@@ -12,7 +12,7 @@ use Rattle.basics.specs.Told.{Told}
 use Rattle.table.specs.declared.Refusal.{Refusal}
 use Rattle.table.specs.declared.FunctionAnswer.{FunctionAnswer}
 use Rattle.table.specs.Answers.{functionTold, functionCheck}
-use Rattle.report_text.specs.Page.{Wrote}
+use Rattle.pages.specs.Page.{Wrote}
 use Rattle.report_text.specs.Report.{saysYes, functionLine, notionName}
 
 module _ (page : List ℕ) (at : ℕ) (after : List ℕ) (end : ℕ) where
@@ -31,12 +31,15 @@ module _ (page : List ℕ) (at : ℕ) (after : List ℕ) (end : ℕ) where
     Line = Wrote page at (functionLine table shares masks) after end
 
     pub wrote-product : says 1 ≡ true → Wrote page at (bytes "function product\n") after end → Line
+    unfolding functionLine
     wrote-product e w = subst (λ (b : Bool). Named b (says 2) (says 3)) (sym e) w
 
     pub wrote-sum : says 1 ≡ false → says 2 ≡ true → Wrote page at (bytes "function sum\n") after end → Line
+    unfolding functionLine
     wrote-sum e f w = subst (λ (b : Bool). Named b (says 2) (says 3)) (sym e) (subst (λ (b : Bool). Named false b (says 3)) (sym f) w)
 
     pub wrote-last : (c : Bool) → says 1 ≡ false → says 2 ≡ false → says 3 ≡ c → Named false false c → Line
+    unfolding functionLine
     wrote-last c e f g w =
         subst (λ (b : Bool). Named b (says 2) (says 3)) (sym e)
         (subst (λ (b : Bool). Named false b (says 3)) (sym f) (subst (λ (b : Bool). Named false false b) (sym g) w))

@@ -16,7 +16,8 @@ use Rattle.wires.specs.Function.{AddUpTo}
 use Rattle.description.specs.Listing.{recordsOf, wireOf}
 use Rattle.description.specs.Grammar.{Description, wiresOf, maskCount}
 use Rattle.verdict.specs.Guarantee.{Watched, HasChoice}
-use Rattle.report_text.specs.Report.{orderLine, wireNumbers, notionName, refusedLine, report}
+use Rattle.pages.specs.Page.{wireNumbers}
+use Rattle.report_text.specs.Report.{orderLine, notionName, refusedLine, report}
 
 abbrev pub tableOf : Description → List ℕ
 tableOf d = recordsOf (wiresOf d)
@@ -34,11 +35,11 @@ HoldsFor d notion = (set : List ℕ) → Watched (tableOf d) (d .order) set → 
 abbrev pub Computes : Description → ℕ → Type 0
 Computes d function = AddUpTo function (sharesOf d) (masksOf d) (map wireOf (wiresOf d))
 
--- product, sum or copy where the outer wires add up to it, and other exactly where they add up to none of the three
+-- product, sum and copy exactly where the outer wires add up to it, and other exactly where they add up to none of the three
 pub record NamesFunction (d : Description) (line : List ℕ) : Type 0 where
   pub product : (line ≡ bytes "function product\n") ↔ Computes d 1
-  pub sum : line ≡ bytes "function sum\n" → Computes d 2
-  pub copy : line ≡ bytes "function copy\n" → Computes d 3
+  pub sum : (line ≡ bytes "function sum\n") ↔ Computes d 2
+  pub copy : (line ≡ bytes "function copy\n") ↔ Computes d 3
   pub other : (line ≡ bytes "function other\n") ↔ ((Computes d 1 → ⊥) × (Computes d 2 → ⊥) × (Computes d 3 → ⊥))
   pub named : (line ≡ bytes "function product\n") ⊎ ((line ≡ bytes "function sum\n") ⊎ ((line ≡ bytes "function copy\n") ⊎ (line ≡ bytes "function other\n")))
 

@@ -1,7 +1,6 @@
 -- The report on a text (scope, "Report program and examples"), over what reading, the function check and the verdicts are to tell.
 --     orderLine                     order, shares, mask count and wire count
 --     saysYes, functionName, functionLine     which function the function check says yes to
---     wireNumbers                   the numbers of wires, a space before each
 --     notionName, said, verdictSaid, notionLine     what a verdict says
 --     checked                       the four lines of a text that was read
 --     refusedLine                   the one line of a text that is turned down
@@ -16,7 +15,6 @@ use mathlib.Core.Bool.{Bool, false, cond}
 use mathlib.Core.List.{List, [], _∷_, _++_}
 use lib.Dec.{eqb, ltb}
 use lib.ListN.{length, take, replicate}
-use Rattle.basics.specs.Folds.{fold}
 use Rattle.basics.specs.Quoted.{bytes}
 use Rattle.basics.specs.Told.{Told, Lent, values, refusal, turnedDown}
 use Rattle.records.specs.Layout.{recordBytes}
@@ -24,7 +22,8 @@ use Rattle.table.specs.Answers.{maxTableBytes, functionCheck}
 use Rattle.verdict.specs.Answers.{verdictOf, written}
 use Rattle.sets.specs.Answers.{maxSize}
 use Rattle.reader.specs.Answers.{ReadTold, gives, refused, ReadLent, readText}
-use Rattle.report_text.specs.Decimal.{decimal}
+use Rattle.pages.specs.Decimal.{decimal}
+use Rattle.pages.specs.Page.{wireNumbers}
 use Rattle.report_text.specs.declared.Refusal.{Refusal}
 use Rattle.report_text.specs.declared.ReportAnswer.{ReportAnswer}
 
@@ -48,12 +47,8 @@ functionName table shares masks =
     (cond (saysYes (functionCheck table shares masks 3)) (bytes "copy")
     (bytes "other")))
 
-abbrev pub functionLine : List ℕ → ℕ → ℕ → List ℕ
+unfoldable pub functionLine : List ℕ → ℕ → ℕ → List ℕ
 functionLine table shares masks = bytes "function " ++ functionName table shares masks ++ bytes "\n"
-
--- a space before each
-abbrev pub wireNumbers : List ℕ → List ℕ
-wireNumbers = fold _++_ [] (λ wire. bytes " " ++ decimal wire)
 
 abbrev pub notionName : ℕ → List ℕ
 notionName notion = cond (eqb notion 1) (bytes "NI") (bytes "SNI")
@@ -70,11 +65,11 @@ verdictSaid lent = said (lent .told) (lent .held)
 abbrev pub emptySet : List ℕ
 emptySet = replicate maxSize 0
 
-abbrev pub notionLine : List ℕ → ℕ → ℕ → ℕ → ℕ → List ℕ
+unfoldable pub notionLine : List ℕ → ℕ → ℕ → ℕ → ℕ → List ℕ
 notionLine table shares masks notion order = notionName notion ++ verdictSaid (verdictOf table shares masks notion order emptySet) ++ bytes "\n"
 
 -- the function and both verdicts at the text's own order
-abbrev pub checked : List ℕ → ℕ → ℕ → ℕ → List ℕ
+unfoldable pub checked : List ℕ → ℕ → ℕ → ℕ → List ℕ
 checked table order shares masks =
     functionLine table shares masks ++ notionLine table shares masks 1 order ++ notionLine table shares masks 2 order
 

@@ -6,7 +6,6 @@ ghost use lib.ListN.{length};
 ghost use Rattle.report_text.specs.Report.{refusalNumber, reportTold, reportText, RoomEnough};
 
 mod lines;
-mod page;
 
 pub use lines::computes;
 

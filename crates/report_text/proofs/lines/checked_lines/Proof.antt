@@ -1,8 +1,9 @@
 -- `report_text::lines::checked_lines` meets its contract: the three lines are written one after the other.
 -- Assumes nothing.
 use native.Mathlib.Omega.{arith}
-use Rattle.report_text.proofs.Writing.{wrote-after}
+use Rattle.pages.proofs.Writing.{wrote-after}
 use borrow.Author.Needs.{needs}
+use Rattle.report_text.specs.Report.{checked}
 use Rattle.report_text.proofs.lines.checked_lines.Statement.{statement}
 use Rattle.report_text.proofs.lines.checked_lines.Tie as tie
 
@@ -19,6 +20,7 @@ same-length : tie.Need-same-length
 same-length c = search needs
 
 returns : tie.Need-returns
+unfolding checked
 returns c =
     let a = c .before .before .before .before .before .before .before .before .before .before .before .before .before .before .args in
     let function = c .before .before .before .before .before .before .before .before .before .before .function-line .ensures in

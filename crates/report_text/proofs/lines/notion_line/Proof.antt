@@ -1,8 +1,9 @@
 -- `report_text::lines::notion_line` meets its contract: its parts are written one after the other.
 -- Assumes nothing.
 use native.Mathlib.Omega.{arith}
-use Rattle.report_text.proofs.Writing.{wrote-after}
+use Rattle.pages.proofs.Writing.{wrote-after}
 use borrow.Author.Needs.{needs}
+use Rattle.report_text.specs.Report.{notionLine}
 use Rattle.report_text.proofs.lines.notion_line.Statement.{statement}
 use Rattle.report_text.proofs.lines.notion_line.Tie as tie
 
@@ -22,6 +23,7 @@ same-length : tie.Need-same-length
 same-length c = search needs
 
 returns : tie.Need-returns
+unfolding notionLine
 returns c =
     let a = c .before .before .before .before .before .before .before .before .before .before .before .before .before .before .before .args in
     let name = c .before .before .before .before .before .before .before .before .before .before .before .notion-name .ensures in

@@ -1,7 +1,7 @@
 -- `report_text::lines::refused_line` meets its contract: its parts are written one after the other.
 -- Assumes nothing.
 use native.Mathlib.Omega.{arith}
-use Rattle.report_text.proofs.Writing.{wrote-after}
+use Rattle.pages.proofs.Writing.{wrote-after}
 use borrow.Author.Needs.{needs}
 use Rattle.report_text.proofs.lines.refused_line.Statement.{statement}
 use Rattle.report_text.proofs.lines.refused_line.Tie as tie
