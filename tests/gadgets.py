@@ -322,6 +322,10 @@ def refused():
     yield "refused-9-before-7", head(1) + two + b" |\n"
     yield "refused-9-before-4", head(1) + two + b"\t\n"
     yield "refused-9-before-6", head(1) + two + b")"
+    yield "refused-9-before-5", head(1) + two + b"r9\n"
+    yield "refused-6-before-9-at-the-end", head(1) + b"(a0"
+    yield "refused-9-before-10-at-the-end", head(2) + b"a0 " * 600
+    yield "refused-6-before-10-at-the-end", head(1) + b"a0 " * 600 + b"\n(b0"
     yield "refused-9-few", head(1) + b"a0\n"
     yield "refused-9-few-no-lines", head(3, [0])
     yield "refused-9-few-order-7", head(7) + b"a7\n\n" * 7 + b"   "

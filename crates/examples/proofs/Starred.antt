@@ -3,6 +3,7 @@
 --     computed             the part that is computed by running the definitions
 --     fours, large         the part on 512 wires, whose count is that of a row of Pascal's triangle
 --     all-hold             the theorem
+--     also-in-general      the two that speak of every table and every number of wires
 use Prim.Native.Nat.{ℕ, _*_, _/_, _%_, _^_}
 use native.Mathlib.Omega.{arith}
 use mathlib.Core.Path.{_≡_, refl, ap}
@@ -13,18 +14,20 @@ use Rattle.basics.specs.Folds.{upTo}
 use Rattle.basics.specs.Told.{values}
 use Rattle.wires.specs.Wires.{countA, masked, breaks, beyond}
 use Rattle.wires.specs.Function.{computes}
+use Rattle.wires.proofs.Breaks.{empty-breaks-nothing}
 use Rattle.records.specs.Words.{bit}
 use Rattle.counts.specs.Counts.{binom}
 use Rattle.counts.proofs.Rows.{binom-row}
 use Rattle.sets.specs.Order.{revolving}
 use Rattle.sets.specs.Division.{start}
+use Rattle.sets.proofs.Examples.{rank-one-of-pairs}
 use Rattle.description.specs.Header.{orderLine, masksLine, namesFrom}
 use Rattle.description.specs.Listing.{encode}
 use Rattle.description.specs.Run.{run}
 use Rattle.verdict.specs.Search.{searched, isBreaking}
 use Rattle.pages.specs.Decimal.{decimal}
 use Rattle.report_text.specs.Report.{functionLine, notionLine, checked, report}
-use Rattle.examples.specs.Starred.{Case, AllHold, starred}
+use Rattle.examples.specs.Starred.{Case, AllHold, starred, AlsoInGeneral}
 
 -- two parts of a table
 all-append : (k l : List Case) → AllHold k → AllHold l → AllHold (k ++ l)
@@ -32,14 +35,14 @@ all-append [] l p q = q
 all-append (c ∷ k) l p q = (p .0, all-append k l (p .1) q)
 
 -- all but the last three are computed by running the definitions
-computed : AllHold (take 11 starred)
+computed : AllHold (take 15 starred)
 unfolding orderLine masksLine namesFrom run bit encode upTo xor beyond computes breaks countA masked searched isBreaking revolving decimal functionLine notionLine checked report binom
-computed = (refl, (refl, (refl, (refl, (refl, (refl, (refl, (refl, (refl, (refl, (refl, tt)))))))))))
+computed = (refl, (refl, (refl, (refl, (refl, (refl, (refl, (refl, (refl, (refl, (refl, (refl, (refl, (refl, (refl, tt)))))))))))))))
 
 fours : binom 512 4 ≡ 2829877120
 fours = binom-row 512 4 (omega arith)
 
-large : AllHold (drop 11 starred)
+large : AllHold (drop 15 starred)
 large = (
   ap (λ (all : ℕ). values (all ∷ [])) fours,
   (
@@ -52,4 +55,11 @@ large = (
 )
 
 pub all-hold : AllHold starred
-all-hold = all-append (take 11 starred) (drop 11 starred) computed large
+all-hold = all-append (take 15 starred) (drop 15 starred) computed large
+
+pub also-in-general : AlsoInGeneral
+unfolding isBreaking
+also-in-general = record {
+  empty-set = λ notion table shares masks. empty-breaks-nothing notion shares masks;
+  rank-one = rank-one-of-pairs;
+}

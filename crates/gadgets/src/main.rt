@@ -6,17 +6,15 @@ use bytes::scan::find;
 use listing::MAX_WIRES;
 use reader::ReadAnswer;
 use records::layout::RECORD_BYTES;
+use report_text::INPUT_BYTES;
 use report_text::MAX_REPORT;
 use report_text::ReportAnswer;
-use report_text::computes;
+use table::FunctionAnswer;
 use table::MAX_TABLE_BYTES;
 
 const STDOUT: i32 = 1;
 
 const INDEX_BYTES: usize = 16384;
-
-// One more than a text may have.
-const TEXT_BYTES: usize = 4097;
 
 fn main() {
     let mut index = [0u8; INDEX_BYTES];
@@ -55,7 +53,7 @@ fn tell_file(is_whole: bool, name: &[u8]) {
         say(b"missing\n");
         return;
     }
-    let mut text = [0u8; TEXT_BYTES];
+    let mut text = [0u8; INPUT_BYTES];
     let end = io::read_full(fd, &mut text);
     libc::close(fd);
     if is_whole {
@@ -126,13 +124,21 @@ fn tell_function(text: &[u8]) {
 // The line of the function.
 fn name_function(table: &[u8], shares: usize, masks: usize) {
     say(b"\nfunction ");
-    if computes(table, shares, masks, 1) {
+    if is_yes(table::function_check(table, shares, masks, 1)) {
         say(b"product");
-    } else if computes(table, shares, masks, 2) {
+    } else if is_yes(table::function_check(table, shares, masks, 2)) {
         say(b"sum");
-    } else if computes(table, shares, masks, 3) {
+    } else if is_yes(table::function_check(table, shares, masks, 3)) {
         say(b"copy");
     } else {
         say(b"other");
+    }
+}
+
+fn is_yes(answer: FunctionAnswer) -> bool {
+    match answer {
+        FunctionAnswer::Yes => true,
+        FunctionAnswer::No => false,
+        FunctionAnswer::Refused(why) => false,
     }
 }

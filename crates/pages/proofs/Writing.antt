@@ -6,47 +6,64 @@
 --     wrote-low, wrote-more     the digits of a number below ten; of any other, after those of a tenth of it
 --     room-low, room-more       there is room for the last digit, and for those before it
 --     wires-more, wires-all     the numbers of one wire more, of all of them
-use Prim.Native.Nat.{ℕ, suc, _+_, _/_, _%_, _≤_, _<_}
+use Prim.Native.Nat.{ℕ, suc, _+_, _-_, _/_, _%_, _≤_, _<_}
+use native.Mathlib.Nat.{le-refl}
 use native.Mathlib.Omega.{arith}
 use mathlib.Core.Path.{_≡_, refl, sym, _∙_, ap, subst}
 use mathlib.Core.List.{List, [], _∷_, _++_, append-assoc, append-nil}
-use lib.ListN.{length, length-append, take, set, getD}
-use lib.Seq.{take-length, take-all, take-suc, length-take-le, take-append-seam, take-suc-set}
+use lib.ListN.{length, length-append, take, drop, set, getD, take-append-drop}
+use lib.Seq.{take-length, take-all, take-suc, length-take-le, drop-append-le, take-suc-set, drop-set-lt, drop-drop, take-at, drop-at}
+use borrow.Rule.Slice.PartMut.{midOf, postOf, putMid, mid-len}
 use Rattle.basics.specs.Quoted.{bytes}
 use Rattle.basics.proofs.Folds.{fold-append}
 use Rattle.pages.specs.Decimal.{digitByte, decimal}
-use Rattle.pages.specs.Page.{wireNumbers}
-use Rattle.pages.specs.Page.{Wrote}
+use Rattle.pages.specs.Page.{Wrote, wireNumbers}
 use Rattle.pages.proofs.Numbers.{decimal-low, decimal-more}
 
 pub wrote-nothing : (page : List ℕ) (at : ℕ) → Wrote page at [] page at
-wrote-nothing page at = record { end-is = omega arith; stands = sym (append-nil (take at page)) }
+wrote-nothing page at = record { end-is = omega arith; stands = sym (append-nil (take at page)); rest = refl }
 
 pub wrote-after : (b : List ℕ) (at : ℕ) (m c : List ℕ) (e : ℕ) (n d : List ℕ) (f : ℕ) → Wrote b at m c e → Wrote c e n d f → Wrote b at (m ++ n) d f
 wrote-after b at m c e n d f w x = record {
   end-is = omega (arith, w .end-is, x .end-is, length-append m n);
   stands = x .stands ∙ ap (λ (l : List ℕ). l ++ n) (w .stands) ∙ append-assoc (take at b) m n;
+  rest = x .rest ∙ past c ∙ ap (drop (length n)) (w .rest) ∙ sym (past b);
 }
+  where
+    past : (page : List ℕ) → drop f page ≡ drop (length n) (drop e page)
+    past page = ap (λ (k : ℕ). drop k page) (x .end-is) ∙ sym (drop-drop (length n) e page)
 
 -- the part of the page from the place on was written over, the bytes first
-pub wrote-copied : (page : List ℕ) (at : ℕ) (text part more rest : List ℕ) → at + length text ≤ length page
-    → part ≡ take (length text) text ++ more → Wrote page at text (take at page ++ (part ++ rest)) (at + length text)
-wrote-copied page at text part more rest room e =
+pub wrote-copied : (page : List ℕ) (at : ℕ) (text part : List ℕ) → at + length text ≤ length page
+    → part ≡ take (length text) text ++ drop (length text) (midOf at (length page - at) page)
+    → Wrote page at text (putMid at (length page - at) page part) (at + length text)
+wrote-copied page at text part room e =
     let start = take at page in
-    let size : at + length text ≡ length (start ++ text) = omega (arith, length-append start text, length-take-le at page (omega (arith, room))) in
-    let whole : start ++ (part ++ rest) ≡ (start ++ text) ++ (more ++ rest) =
-    ap (λ (l : List ℕ). start ++ (l ++ rest)) (e ∙ ap (λ (l : List ℕ). l ++ more) (take-length text))
-    ∙ ap (λ (l : List ℕ). start ++ l) (append-assoc text more rest) ∙ sym (append-assoc start text (more ++ rest)) in
+    let mid = midOf at (length page - at) page in
+    let post = postOf at (length page - at) page in
+    let n = length text in
+    let size : length (start ++ text) ≡ at + n = omega (arith, length-append start text, length-take-le at page (omega (arith, room))) in
+    let past : drop n mid ++ post ≡ drop (at + n) page =
+    sym (drop-append-le n mid post (omega (arith, room, mid-len at (length page) page (le-refl (length page)))))
+    ∙ ap (drop n) (take-append-drop (length page - at) (drop at page)) ∙ drop-drop n at page in
+    let whole : start ++ (part ++ post) ≡ (start ++ text) ++ drop (at + n) page =
+    ap (λ (l : List ℕ). start ++ (l ++ post)) (e ∙ ap (λ (l : List ℕ). l ++ drop n mid) (take-length text))
+    ∙ ap (λ (l : List ℕ). start ++ l) (append-assoc text (drop n mid) post ∙ ap (λ (l : List ℕ). text ++ l) past)
+    ∙ sym (append-assoc start text (drop (at + n) page)) in
     record {
       end-is = refl;
-      stands = ap (take (at + length text)) whole ∙ ap (λ (k : ℕ). take k ((start ++ text) ++ (more ++ rest))) size
-          ∙ take-append-seam (start ++ text) (more ++ rest);
+      stands = ap (take (at + n)) whole ∙ take-at (start ++ text) (drop (at + n) page) (at + n) size;
+      rest = ap (drop (at + n)) whole ∙ drop-at (start ++ text) (drop (at + n) page) (at + n) size;
     }
 
 pub wrote-byte : (page : List ℕ) (at byte : ℕ) → at < length page → Wrote page at (byte ∷ []) (set page at byte) (at + 1)
 wrote-byte page at byte room =
     let next : at + 1 ≡ suc at = omega arith in
-    record { end-is = refl; stands = ap (λ (k : ℕ). take k (set page at byte)) next ∙ take-suc-set page at byte room }
+    record {
+      end-is = refl;
+      stands = ap (λ (k : ℕ). take k (set page at byte)) next ∙ take-suc-set page at byte room;
+      rest = drop-set-lt (at + 1) page at byte (omega arith);
+    }
 
 pub room-low : (at n room : ℕ) → n < 10 → at + length (decimal n) ≤ room → at < room
 room-low at n room h r = let size = ap {B = ℕ} length (decimal-low n h) in omega (arith, size, r)

@@ -1,12 +1,10 @@
 // Bytes and numbers written to a page one after the other: each function is told where the next byte goes, and answers where the one after
 // its own goes.
-ghost use mathlib.Core.Path.{_≡_};
 ghost use Prim.Native.Nat.{_≤_, _<_, _+_, _*_};
 ghost use mathlib.Core.List.{[], _∷_, _++_};
 ghost use lib.ListN.{length};
 ghost use Rattle.pages.specs.Decimal.{digitByte, decimal};
-ghost use Rattle.pages.specs.Page.{Wrote};
-ghost use Rattle.pages.specs.Page.{wireNumbers};
+ghost use Rattle.pages.specs.Page.{Wrote, wireNumbers};
 
 // Some bytes.
 pub fn write_text(page: &mut [u8], at: usize, text: &[u8]) -> usize

@@ -2,16 +2,14 @@
 use libc::STDERR_FILENO;
 use libc::STDIN_FILENO;
 use libc::STDOUT_FILENO;
+use report_text::INPUT_BYTES;
 use report_text::MAX_REPORT;
 use report_text::ReportAnswer;
-
-// A byte more than a text may have: a longer input is refused by it, however much comes.
-const INPUT_BYTES: usize = 4097;
 
 fn main() {
     let mut text = [0u8; INPUT_BYTES];
     let length = io::read_full(STDIN_FILENO, &mut text);
-    // a text that was read in part is no text
+    // errno is 0 when a program starts, and only a call that fails sets it; a text that was read in part is no text
     if os::errno() != 0 {
         os::fail(b"standard input");
         return;

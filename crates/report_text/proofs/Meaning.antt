@@ -1,19 +1,26 @@
 -- What the report says of a gadget, in the words of the grammar and of the watcher.
 --     apart, holds-broken                  lines are apart where a byte differs; one that says holds is none that says broken
---     turned-report, large-report, read-report     the report, by what reading comes to
+--     refused-report                       the report, where reading tells a refusal
+--     turned-told, large-told              what reading tells of a text that is turned down, and of one with too many wires
+--     read-report                          the report on a text that was read
 --     function-told, yes-exactly           what the function check tells of a table that passes the tests: yes exactly where the outer wires add up
 --     product-sum, product-copy, sum-copy  no two of the three functions are what the outer wires add up to
 --     named                                which function is named, by the three answers
+--     pick-size                            a part of a list is shorter, or all of it
+--     after-part                           what does not come after a part of a set does not come after the set
+--     not-after                            whether a set comes after another is decided by their sizes and ranks
+--     shown-first                          the first breaking set comes after no set without a choice
 --     function-accepted, read-accepted     of a text that was read neither the function check nor a verdict is refused
 --     says-function, says-notion           what the function line and the line of a notion say
 --     says                                 what the report says of a text that spells a description within the limits
 --     refuses                              and of any other
-use Prim.Native.Nat.{ℕ, _+_, _*_, _≤_, _<_}
+use Prim.Native.Nat.{ℕ, suc, _+_, _*_, _≤_, _<_}
+use native.Mathlib.Decide.{decLt}
 use native.Mathlib.Omega.{arith}
 use mathlib.Core.Path.{_≡_, refl, sym, _∙_, ap, ap₂, subst}
 use mathlib.Core.Logic.{_↔_, _⊎_, inl, inr}
 use mathlib.Core.Bool.{Bool, true, false, cond, not, _&&_, _||_, xor, true≢false, false≢true}
-use mathlib.Core.List.{List, [], _∷_, _++_}
+use mathlib.Core.List.{List, [], _∷_, _++_, map}
 use lib.Dec.{ltb, leb, eqb}
 use lib.ListN.{length, length-replicate, take, drop, getD}
 use lib.Seq.{take-at, take-append-seam}
@@ -24,15 +31,21 @@ use Rattle.basics.specs.Told.{Lent, values, refusal}
 use Rattle.basics.proofs.Tests.{or-left, xor-false, false-xor, xor-self}
 use Rattle.basics.proofs.Folds.{fold-pick}
 use Rattle.basics.proofs.Telling.{values-refusal}
-use Rattle.wires.specs.Wires.{Wire, Input}
+use Rattle.wires.specs.Wires.{Wire, Input, breaks}
 use Rattle.wires.specs.Function.{operand, functionOf, AddUpTo, computes}
 use Rattle.wires.proofs.Function.{computes-exactly}
-use Rattle.records.specs.Layout.{wireCount, wires}
+use Rattle.watcher.proofs.Bits.{pick, pick-map}
+use Rattle.watcher.proofs.Choice.{choice}
+use Rattle.records.specs.Layout.{wireAt, wireCount, wires}
+use Rattle.sets.specs.Order.{rankOf}
 use Rattle.table.specs.Answers.{maxTableBytes, tableCheck, functionCheck}
 use Rattle.table.proofs.Entries.{accepted, accepted-exactly, tested-answer}
 use Rattle.verdict.specs.Search.{searched, isBreaking}
 use Rattle.verdict.specs.Answers.{notionOf, written, firstShown, verdictOf}
-use Rattle.verdict.proofs.Watching.{all-choose, shown-none}
+use Rattle.verdict.specs.Guarantee.{Watched, HasChoice}
+use Rattle.verdict.specs.First.{NotAfter, FirstBreaking}
+use Rattle.verdict.proofs.Watching.{pick-watched, all-choose, shown-none}
+use Rattle.verdict.proofs.First.{first-is}
 use Rattle.verdict.proofs.Accepting.{verdict-answered, verdict-ordered, verdict-accepts}
 use Rattle.description.specs.declared.Listed.{Listed}
 use Rattle.description.specs.declared.Refusal.{Refusal}
@@ -42,11 +55,11 @@ use Rattle.description.specs.Run.{Reading, read, turnedDown, reading, refusalNu
 use Rattle.description.proofs.Encoding.{length-records}
 use Rattle.description.proofs.Exactly.{spelled-read, read-spelled}
 use Rattle.description.proofs.Tables.{wires-mean, table-passes}
-use Rattle.reader.specs.Answers.{gives, refused, tooLarge, lentReading}
+use Rattle.reader.specs.Answers.{ReadTold, ReadLent, gives, refused, tooLarge, lentReading, readText}
 use Rattle.reader.specs.Reads.{Readable}
 use Rattle.pages.specs.Page.{wireNumbers}
 use Rattle.report_text.specs.Report.{orderLine, saysYes, functionLine, notionName, verdictSaid, emptySet, notionLine, checked}
-use Rattle.report_text.specs.Report.{refusedLine, emptyTable, readReported, report}
+use Rattle.report_text.specs.Report.{refusedLine, emptyTable, reported, readReported, report}
 use Rattle.report_text.specs.Meaning.{tableOf, sharesOf, masksOf, Computes, NamesFunction, SaysNotion, ReportSays, Refuses}
 
 -- ---- lines
@@ -61,29 +74,36 @@ holds-broken (c ∷ name) more e = holds-broken name more (ap (drop 1) e)
 -- ---- what reading comes to
 
 module _ (text : List ℕ) where
-  turned-report : (why : Refusal) (offset : ℕ) → reading text ≡ turnedDown why offset → report text ≡ refusedLine (refusalNumber why) offset
+  refused-report : (number offset : ℕ) → readText text emptyTable .told ≡ refused number offset → report text ≡ refusedLine number offset
   unfolding report
-  turned-report why offset e = ap (λ (r : Reading). readReported (lentReading text emptyTable r)) e
+  refused-report number offset e = ap (λ (t : ReadTold). reported t (readText text emptyTable .held)) e
+
+  turned-told : (why : Refusal) (offset : ℕ) → reading text ≡ turnedDown why offset
+      → readText text emptyTable .told ≡ refused (refusalNumber why) offset
+  turned-told why offset e = ap (λ (r : Reading). lentReading text emptyTable r .told) e
 
   module _ (order masks : ℕ) (ws : List Listed) (e : reading text ≡ read order masks ws) where
-    -- what is reported where there are too many wires, and where there are not
-    abbrev sized : Bool → List ℕ
+    -- what reading tells where there are too many wires, and where there are not
+    abbrev sized : Bool → ReadLent
     sized large =
-        readReported (cond large (record { told = refused 10 (length text); held = emptyTable })
-        (record { told = gives order (order + 1) masks (length ws); held = recordsOf ws ++ drop (24 * length ws) emptyTable }))
+        cond large (record { told = refused 10 (length text); held = emptyTable })
+        (record { told = gives order (order + 1) masks (length ws); held = recordsOf ws ++ drop (24 * length ws) emptyTable })
 
-    sized-report : (large : Bool) → tooLarge emptyTable (length ws) ≡ large → report text ≡ sized large
-    unfolding report
-    sized-report large f = ap (λ (r : Reading). readReported (lentReading text emptyTable r)) e ∙ ap sized f
+    sized-read : (large : Bool) → tooLarge emptyTable (length ws) ≡ large → readText text emptyTable ≡ sized large
+    sized-read large f = ap (lentReading text emptyTable) e ∙ ap sized f
 
-    large-report : maxWires < length ws → report text ≡ refusedLine 10 (length text)
-    large-report h = sized-report true (or-left (ltb 512 (length ws)) (ltb (length emptyTable) (24 * length ws)) (lt-ltb 512 (length ws) h))
+    large-told : maxWires < length ws → readText text emptyTable .told ≡ refused 10 (length text)
+    large-told h =
+        ap (λ (lent : ReadLent). lent .told)
+        (sized-read true (or-left (ltb 512 (length ws)) (ltb (length emptyTable) (24 * length ws)) (lt-ltb 512 (length ws) h)))
 
     read-report : length ws ≤ maxWires
         → report text ≡ orderLine order (order + 1) masks (length ws) ++ checked (recordsOf ws) order (order + 1) masks
+    unfolding report
     read-report few =
         let room = length-replicate {A = ℕ} 12288 0 in
-        sized-report false (ap₂ _||_ (le-ltb 512 (length ws) few) (le-ltb (length emptyTable) (24 * length ws) (omega (arith, room, few))))
+        ap readReported
+        (sized-read false (ap₂ _||_ (le-ltb 512 (length ws) few) (le-ltb (length emptyTable) (24 * length ws) (omega (arith, room, few)))))
         ∙ ap (λ (l : List ℕ). orderLine order (order + 1) masks (length ws) ++ checked l order (order + 1) masks)
         (take-at (recordsOf ws) (drop (24 * length ws) emptyTable) (24 * length ws) (length-records ws))
 
@@ -164,6 +184,64 @@ named d false false false product sum copy = record {
   named = inr (inr (inr refl));
 }
 
+-- ---- the set shown
+
+pick-size : (l : List Bool) (s : List ℕ) → (length (pick l s) < length s) ⊎ (pick l s ≡ s)
+pick-size [] [] = inr refl
+pick-size [] (x ∷ s) = inl (omega arith)
+pick-size (b ∷ l) [] = inr refl
+pick-size (b ∷ l) (x ∷ s) = go b (pick-size l s)
+  where
+    go : (b : Bool) → (length (pick l s) < length s) ⊎ (pick l s ≡ s)
+        → (length (cond b (x ∷ pick l s) (pick l s)) < suc (length s)) ⊎ (cond b (x ∷ pick l s) (pick l s) ≡ x ∷ s)
+    go true (inl less) = inl (omega (arith, less))
+    go true (inr e) = inr (ap {B = List ℕ} (λ v. x ∷ v) e)
+    go false (inl less) = inl (omega (arith, less))
+    go false (inr e) = inl (omega (arith, ap length e))
+
+after-part : (n : ℕ) (s u : List ℕ) (l : List Bool) → NotAfter n s (pick l u) → NotAfter n s u
+after-part n s u l = go (pick-size l u)
+  where
+    go : (length (pick l u) < length u) ⊎ (pick l u ≡ u) → NotAfter n s (pick l u) → NotAfter n s u
+    go (inl less) (inl h) = inl (omega (arith, less, h))
+    go (inl less) (inr h) = inl (omega (arith, less, h .0))
+    go (inr e) h = subst (NotAfter n s) e h
+
+not-after : (n : ℕ) (s u : List ℕ) → Dec (NotAfter n s u)
+not-after n s u = go (decLt (length s) (length u)) (decLt (length u) (length s)) (decLt (rankOf n u) (rankOf n s))
+  where
+    go : Dec (length s < length u) → Dec (length u < length s) → Dec (rankOf n u < rankOf n s) → Dec (NotAfter n s u)
+    go (yes less) more low = yes (inl less)
+    go (no less) (no more) (no low) = yes (inr (omega arith, omega arith))
+    go (no less) (yes more) low = no longer
+      where
+        longer : NotAfter n s u → ⊥
+        longer (inl h) = omega arith
+        longer (inr h) = omega (arith, h .0)
+    go (no less) (no more) (yes low) = no later
+      where
+        later : NotAfter n s u → ⊥
+        later (inl h) = less h
+        later (inr h) = omega (arith, h .1)
+
+-- a set that came before it would have no part that breaks, and so a choice
+shown-first : (table : List ℕ) (shares masks notion order : ℕ) (s : List ℕ) → FirstBreaking table shares masks notion order s
+    → (u : List ℕ) → Watched table order u → (HasChoice table shares masks notion u → ⊥) → NotAfter (wireCount table) s u
+unfolding isBreaking
+shown-first table shares masks notion order s shown u w none = go (not-after (wireCount table) s u)
+  where
+    whole : (NotAfter (wireCount table) s u → ⊥) → (l : List Bool) (b : Bool) → isBreaking (notionOf notion) table shares masks (pick l u) ≡ b
+        → b ≡ false
+    whole before l false e = refl
+    whole before l true e = absurd (before (after-part (wireCount table) s u l (shown .first (pick l u) (pick-watched table order l u w) e)))
+
+    go : Dec (NotAfter (wireCount table) s u) → NotAfter (wireCount table) s u
+    go (yes h) = h
+    go (no before) =
+        absurd (none (choice (notionOf notion) shares masks (map (wireAt table) u)
+        (λ l. ap (breaks (notionOf notion) shares masks) (sym (pick-map (wireAt table) l u))
+        ∙ whole before l (isBreaking (notionOf notion) table shares masks (pick l u)) refl)))
+
 -- ---- a text that spells a description within the limits
 
 module _ (text : List ℕ) (d : Description) (spells : Spells text d) (limits : Limits text d) (few : length (wiresOf d) ≤ maxWires) where
@@ -230,6 +308,8 @@ module _ (text : List ℕ) (d : Description) (spells : Spells text d) (limits : 
                 some = none .0;
                 watched = none .1;
                 no-choice = none .2;
+                first = shown-first (tableOf d) (sharesOf d) (masksOf d) notion (d .order) set
+                    (first-is (tableOf d) (sharesOf d) (masksOf d) notion (d .order) set later e);
               };
             }
 
@@ -250,13 +330,15 @@ says text d spells limits few = record {
 pub refuses : (text : List ℕ) → (Readable text maxTableBytes → ⊥) → Refuses text
 refuses text never = by-reading (reading text) refl
   where
+    turned : (number offset : ℕ) → readText text emptyTable .told ≡ refused number offset → Refuses text
+    turned number offset e = record { number = number; offset = offset; told = e; line = refused-report text number offset e }
+
     by-reading : (r : Reading) → reading text ≡ r → Refuses text
-    by-reading (turnedDown why offset) e = record { number = refusalNumber why; offset = offset; line = turned-report text why offset e }
+    by-reading (turnedDown why offset) e = turned (refusalNumber why) offset (turned-told text why offset e)
     by-reading (read order masks ws) e = by-size (ltb maxWires (length ws)) refl
       where
         by-size : (large : Bool) → ltb maxWires (length ws) ≡ large → Refuses text
-        by-size true f =
-            record { number = 10; offset = length text; line = large-report text order masks ws e (ltb-true maxWires (length ws) f) }
+        by-size true f = turned 10 (length text) (large-told text order masks ws e (ltb-true maxWires (length ws) f))
         by-size false f =
             let s = read-spelled text order masks ws e in
             let few = subst (λ (l : List Listed). length l ≤ maxWires) (s .same-wires) (ltb-false maxWires (length ws) f) in

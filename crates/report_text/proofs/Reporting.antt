@@ -30,7 +30,18 @@ use Rattle.report_text.specs.declared.Refusal as report-texts
 use Rattle.report_text.specs.declared.ReportAnswer.{ReportAnswer}
 use Rattle.pages.specs.Decimal.{decimal}
 use Rattle.pages.specs.Page.{Wrote, wireNumbers}
-use Rattle.report_text.specs.Report.{verdictSaid, orderLine, checked, refusedLine, emptyTable, readReported, report, reportText, maxReport, RoomEnough}
+use Rattle.report_text.specs.Report.{
+  verdictSaid,
+  orderLine,
+  checked,
+  refusedLine,
+  emptyTable,
+  readReported,
+  report,
+  reportText,
+  maxReport,
+  RoomEnough,
+}
 use Rattle.pages.proofs.Writing.{wrote-after}
 
 part-start : (n : ℕ) (l : List ℕ) → take (n - 0) l ≡ take n l

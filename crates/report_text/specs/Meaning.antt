@@ -1,11 +1,12 @@
--- What a report says of a gadget, in the words of the grammar and of the watcher: no run over the bytes, no breaking set and no search in it.
+-- What a report says of a gadget, in the words of the grammar and of the watcher: no breaking set and no search in it, and no run over the bytes
+-- but in what reading tells of a text that is turned down.
 --     tableOf, sharesOf, masksOf     the wire table, shares and mask count of a description
 --     HoldsFor                       every set of at most the order's wires admits a choice of shares, as demand 3 says
 --     Computes                       the outer wires add up to a function
 --     NamesFunction                  which function is named, and what that says of the outer wires' values
---     Breaks, SaysNotion             holds exactly when every set has a choice; a break shows a set that has none
+--     Breaks, SaysNotion             holds exactly when every set has a choice; a break shows the first in the published order that has none
 --     ReportSays                     the four lines of the report on a text that spells a description
---     Refuses                        the one line of a text that is turned down
+--     Refuses                        the one line of a text that is turned down, with the number and offset that reading tells
 use Prim.Native.Nat.{ℕ, _+_, _<_}
 use mathlib.Core.Path.{_≡_}
 use mathlib.Core.Logic.{_↔_, _⊎_}
@@ -13,11 +14,14 @@ use mathlib.Core.List.{List, _++_, map}
 use lib.ListN.{length}
 use Rattle.basics.specs.Quoted.{bytes}
 use Rattle.wires.specs.Function.{AddUpTo}
+use Rattle.records.specs.Layout.{wireCount}
 use Rattle.description.specs.Listing.{recordsOf, wireOf}
 use Rattle.description.specs.Grammar.{Description, wiresOf, maskCount}
 use Rattle.verdict.specs.Guarantee.{Watched, HasChoice}
+use Rattle.verdict.specs.First.{NotAfter}
+use Rattle.reader.specs.Answers.{refused, readText}
 use Rattle.pages.specs.Page.{wireNumbers}
-use Rattle.report_text.specs.Report.{orderLine, notionName, refusedLine, report}
+use Rattle.report_text.specs.Report.{orderLine, notionName, refusedLine, emptyTable, report}
 
 abbrev pub tableOf : Description → List ℕ
 tableOf d = recordsOf (wiresOf d)
@@ -41,15 +45,19 @@ pub record NamesFunction (d : Description) (line : List ℕ) : Type 0 where
   pub sum : (line ≡ bytes "function sum\n") ↔ Computes d 2
   pub copy : (line ≡ bytes "function copy\n") ↔ Computes d 3
   pub other : (line ≡ bytes "function other\n") ↔ ((Computes d 1 → ⊥) × (Computes d 2 → ⊥) × (Computes d 3 → ⊥))
-  pub named : (line ≡ bytes "function product\n") ⊎ ((line ≡ bytes "function sum\n") ⊎ ((line ≡ bytes "function copy\n") ⊎ (line ≡ bytes "function other\n")))
+  pub named : (line ≡ bytes "function product\n")
+      ⊎ ((line ≡ bytes "function sum\n") ⊎ ((line ≡ bytes "function copy\n") ⊎ (line ≡ bytes "function other\n")))
 
--- a line that does not say holds shows a set within the order that has no choice
+-- a line that does not say holds shows a set within the order that has no choice, and of all such sets the first in the published order: none has
+-- fewer wires, or as many and a lower rank
 pub record Breaks (d : Description) (notion : ℕ) (line : List ℕ) : Type 0 where
   pub set : List ℕ
   pub shown : line ≡ notionName notion ++ (bytes " broken" ++ wireNumbers set) ++ bytes "\n"
   pub some : 0 < length set
   pub watched : Watched (tableOf d) (d .order) set
   pub no-choice : HasChoice (tableOf d) (sharesOf d) (masksOf d) notion set → ⊥
+  pub first : (u : List ℕ) → Watched (tableOf d) (d .order) u → (HasChoice (tableOf d) (sharesOf d) (masksOf d) notion u → ⊥)
+      → NotAfter (wireCount (tableOf d)) set u
 
 pub record SaysNotion (d : Description) (notion : ℕ) (line : List ℕ) : Type 0 where
   pub holds : (line ≡ notionName notion ++ bytes " holds" ++ bytes "\n") ↔ HoldsFor d notion
@@ -64,7 +72,9 @@ pub record ReportSays (text : List ℕ) (d : Description) : Type 0 where
   pub says-ni : SaysNotion d 1 ni
   pub says-sni : SaysNotion d 2 sni
 
+-- number and offset are those that reading the text tells
 pub record Refuses (text : List ℕ) : Type 0 where
   pub number : ℕ
   pub offset : ℕ
+  pub told : readText text emptyTable .told ≡ refused number offset
   pub line : report text ≡ refusedLine number offset

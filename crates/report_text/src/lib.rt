@@ -7,18 +7,19 @@ ghost use Rattle.report_text.specs.Report.{refusalNumber, reportTold, re
 
 mod lines;
 
-pub use lines::computes;
-
 // A buffer of so many bytes is never too short.
 pub const MAX_REPORT: usize = 512;
 
-// Why a report is not written.
+// A byte more than a text may have: a program that reads so many refuses a longer input, however much comes.
+pub const INPUT_BYTES: usize = 4097;
+
+// Why a report is not written. The scope has no refusal for it; the number is that of an answer buffer that is too short.
 pub enum Refusal {
     BufferTooShort,
 }
 
 impl Refusal {
-    // The scope's number of the refusal.
+    // The number of the refusal.
     pub fn number(self) -> u64
         ensures { λ r. ⌜ r ≡ refusalNumber self ⌝ }
     {

@@ -1,7 +1,6 @@
 // The lines of a report, each written to a page where the one before it ends.
 ghost use mathlib.Core.Path.{_≡_};
-ghost use Prim.Native.Nat.{_≤_, _<_, _+_};
-ghost use mathlib.Core.List.{_++_};
+ghost use Prim.Native.Nat.{_≤_, _+_};
 ghost use lib.ListN.{length};
 ghost use Rattle.table.specs.Answers.{functionCheck};
 ghost use Rattle.verdict.specs.Answers.{verdictOf};
@@ -107,7 +106,7 @@ fn function_line(page: &mut [u8], at: usize, table: &[u8], shares: usize, masks:
 }
 
 // Whether the function check says yes.
-pub fn computes(table: &[u8], shares: usize, masks: usize, function: usize) -> bool
+fn computes(table: &[u8], shares: usize, masks: usize, function: usize) -> bool
     ensures { λ r. ⌜ r ≡ saysYes (functionCheck (now (table .entry)) shares masks function) ⌝ }
 {
     let answer = table::function_check(table, shares, masks, function);

@@ -21,7 +21,12 @@ abbrev entered : ℕ → In 1 write-number-kinds.ps
 entered t = and 1 write-number-kinds.ps (is 1 write-number-kinds.ps μ t) write-number.Pre
 
 abbrev calls : ℕ → write-number-lts.Claims
-calls t = (write-digit.Asked, write-digit.Learnt, and 1 write-number-kinds.ps (falls 1 write-number-kinds.ps _<_ μ t) write-number.Pre, write-number.Post)
+calls t = (
+  write-digit.Asked,
+  write-digit.Learnt,
+  and 1 write-number-kinds.ps (falls 1 write-number-kinds.ps _<_ μ t) write-number.Pre,
+  write-number.Post,
+)
 
 write-digit-requires : (t : ℕ) → write-number-lts.Need-write-digit-requires (calls t) (entered t) write-number.Post
 write-digit-requires t c κs =
@@ -33,18 +38,24 @@ same-length t c = search needs
 
 returns : (t : ℕ) → write-number-lts.Need-returns (calls t) (entered t) write-number.Post
 returns t c =
-    let a = c .before .before .before .before .before .before .args in wrote-low (a .page .now) (a .at) (a .number) _ _ (search needs) (c .before .before .write-digit .ensures)
+    let a = c .before .before .before .before .before .before .args in wrote-low (a .page .now) (a .at) (a .number) _ _ (search needs)
+    (c .before .before .write-digit .ensures)
 
 write-number-requires : (t : ℕ) → write-number-lts.Need-write-number-requires (calls t) (entered t) write-number.Post
 write-number-requires t c κs =
-    let a = c .before .before .before .args in
-    (omega (arith, c .before .before .before .pre .0, c .before .if1 .left), le-of-lt (room-more (a .at) (a .number) _ (search needs) (c .before .before .before .pre .1)))
+    let a = c .before .before .before .args in (
+      omega (arith, c .before .before .before .pre .0, c .before .if1 .left),
+      le-of-lt
+          (room-more (a .at) (a .number) _ (search needs) (c .before .before .before .pre .1)),
+    )
 
 write-digit-requires-2 : (t : ℕ) → write-number-lts.Need-write-digit-requires-2 (calls t) (entered t) write-number.Post
 write-digit-requires-2 t c κs =
     let a = c .before .before .before .before .before .before .before .args in
-    let next = c .before .before .before .write-number .ensures .end-is in
-    (omega (arith, next, room-more (a .at) (a .number) _ (search needs) (c .before .before .before .before .before .before .before .pre .1)), mod-lt (a .number) (zero-lt-suc 9))
+    let next = c .before .before .before .write-number .ensures .end-is in (
+      omega (arith, next, room-more (a .at) (a .number) _ (search needs) (c .before .before .before .before .before .before .before .pre .1)),
+      mod-lt (a .number) (zero-lt-suc 9),
+    )
 
 same-length-2 : (t : ℕ) → write-number-lts.Need-same-length-2 (calls t) (entered t) write-number.Post
 same-length-2 t c = search needs
@@ -52,7 +63,8 @@ same-length-2 t c = search needs
 returns-2 : (t : ℕ) → write-number-lts.Need-returns-2 (calls t) (entered t) write-number.Post
 returns-2 t c =
     let a = c .before .before .before .before .before .before .before .before .before .before .args in
-    wrote-more (a .page .now) (a .at) (a .number) _ _ _ _ (search needs) (c .before .before .before .before .before .before .write-number .ensures) (c .before .before .write-digit2 .ensures)
+    wrote-more (a .page .now) (a .at) (a .number) _ _ _ _ (search needs)
+    (c .before .before .before .before .before .before .write-number .ensures) (c .before .before .write-digit2 .ensures)
 
 pub +write-number-spec : {M : Type 1} → statement M
 +write-number-spec =

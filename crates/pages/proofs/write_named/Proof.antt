@@ -12,7 +12,13 @@ write-text-requires c κs = search needs
 
 write-number-requires : tie.Need-write-number-requires
 write-number-requires c κs =
-    omega (arith, decimal-few (c .before .before .before .before .before .before .before .args .number) (c .before .before .before .before .before .before .before .fits .number .fits), c .before .before .before .write-text .ensures .1, c .before .before .before .before .before .before .before .pre)
+    omega (
+      arith,
+      decimal-few (c .before .before .before .before .before .before .before .args .number)
+          (c .before .before .before .before .before .before .before .fits .number .fits),
+      c .before .before .before .write-text .ensures .1,
+      c .before .before .before .before .before .before .before .pre,
+    )
 
 same-length : tie.Need-same-length
 same-length c = search needs
@@ -22,7 +28,13 @@ returns c =
     let a = c .before .before .before .before .before .before .before .before .before .before .args in
     let number = c .before .before .write-number .ensures in (
       wrote-after (a .page .now) (a .at) (a .name .now) _ _ _ _ _ (c .before .before .before .before .before .before .write-text .ensures .0) number,
-      omega (arith, decimal-few (a .number) (c .before .before .before .before .before .before .before .before .before .before .fits .number .fits), c .before .before .before .before .before .before .write-text .ensures .1, number .end-is),
+      omega (
+        arith,
+        decimal-few (a .number)
+            (c .before .before .before .before .before .before .before .before .before .before .fits .number .fits),
+        c .before .before .before .before .before .before .write-text .ensures .1,
+        number .end-is,
+      ),
     )
 
 pub write-named-spec : {M : Type 1} → statement M

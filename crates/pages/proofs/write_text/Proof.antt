@@ -26,7 +26,8 @@ same-length c = search needs
 returns : tie.Need-returns
 returns c =
     let a = c .before .before .before .before .before .before .args in (
-      wrote-copied (a .page .now) (a .at) (a .text .now) (c .before .before .copy .last .1 .0) _ _ (search needs) (c .before .before .copy .ensures .1),
+      wrote-copied (a .page .now) (a .at) (a .text .now) (c .before .before .copy .last .1 .0) (search needs)
+          (c .before .before .copy .ensures .1),
       search needs,
     )
 

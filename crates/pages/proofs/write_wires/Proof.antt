@@ -1,13 +1,11 @@
 -- `pages::write_wires` meets its contract: before each turn the numbers of the wires up to there are written.
 -- Assumes nothing.
-use Prim.Native.Nat.{ℕ, _+_, _*_, _-_, _≤_}
+use Prim.Native.Nat.{_+_, _*_, _-_, _≤_}
 use native.Mathlib.Omega.{arith}
 use mathlib.Core.Path.{_≡_, refl}
-use mathlib.Core.List.{List}
 use lib.ListN.{length, take}
 use borrow.Author.Needs.{needs}
-use Rattle.pages.specs.Page.{Wrote}
-use Rattle.pages.specs.Page.{wireNumbers}
+use Rattle.pages.specs.Page.{Wrote, wireNumbers}
 use Rattle.pages.proofs.Writing.{wrote-nothing, wires-more, wires-all}
 use Rattle.pages.proofs.write_wires.Statement.{statement}
 use Rattle.pages.proofs.write_wires.Tie as tie
@@ -37,7 +35,14 @@ cast-write-named c = omega (arith, c .shared-slice-known2 .given (c .before .bef
 
 write-named-requires : tie.Need-write-named-requires Inv-loop μ-loop
 write-named-requires c κs =
-    let inv = c .before .before .before .before .loop .inv in omega (arith, inv .0, inv .1, inv .3, c .before .before .before .loop-test .taken, c .before .before .before .before .before .before .before .pre)
+    let inv = c .before .before .before .before .loop .inv in omega (
+      arith,
+      inv .0,
+      inv .1,
+      inv .3,
+      c .before .before .before .loop-test .taken,
+      c .before .before .before .before .before .before .before .pre,
+    )
 
 add-i : tie.Need-add-i Inv-loop μ-loop
 add-i c = search needs

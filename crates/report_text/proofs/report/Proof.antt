@@ -35,8 +35,11 @@ same-length c = search needs
 returns-2 : tie.Need-returns-2
 returns-2 c =
     let a = c .before .before .before .before .before .before .before .before .before .before .before .before .args in
-    let whole = c .before .before .before .before .before .before .before .before .whole-report .ensures in
-    (report-written (a .text .now) (a .buffer .now) _ _ _ (whole .0) _ (c .before .before .before .before .before .before .if1 .left) (c .before .before .copy .ensures .1), room-written _ _ (whole .1))
+    let whole = c .before .before .before .before .before .before .before .before .whole-report .ensures in (
+      report-written (a .text .now) (a .buffer .now) _ _ _ (whole .0) _ (c .before .before .before .before .before .before .if1 .left)
+          (c .before .before .copy .ensures .1),
+      room-written _ _ (whole .1),
+    )
 
 pub report-spec : {M : Type 1} → statement M
 report-spec =

@@ -23,7 +23,9 @@ same-length c = search needs
 returns : tie.Need-returns
 returns c =
     let a = c .before .before .before .before .before .before .before .before .before .args in (
-      wrote-product (a .page .now) (a .at) _ _ (a .table .now) (a .shares) (a .masks) (sym (c .before .before .before .before .before .before .computes .ensures) ∙ c .before .before .before .before .before .if1 .taken) (c .before .before .write-text .ensures .0),
+      wrote-product (a .page .now) (a .at) _ _ (a .table .now) (a .shares) (a .masks)
+          (sym (c .before .before .before .before .before .before .computes .ensures) ∙ c .before .before .before .before .before .if1 .taken)
+          (c .before .before .write-text .ensures .0),
       omega (arith, c .before .before .write-text .ensures .1),
     )
 
@@ -44,7 +46,8 @@ returns-2 c =
     let a = c .before .before .before .before .before .before .before .before .before .before .before .args in (
       wrote-sum (a .page .now) (a .at) _ _ (a .table .now) (a .shares) (a .masks)
           (sym (c .before .before .before .before .before .before .before .before .computes .ensures) ∙ c .before .before .before .before .before .before .before .if1 .left)
-          (sym (c .before .before .before .before .before .before .computes2 .ensures) ∙ c .before .before .before .before .before .if2 .taken) (c .before .before .write-text2 .ensures .0),
+          (sym (c .before .before .before .before .before .before .computes2 .ensures) ∙ c .before .before .before .before .before .if2 .taken)
+          (c .before .before .write-text2 .ensures .0),
       omega (arith, c .before .before .write-text2 .ensures .1),
     )
 
@@ -65,7 +68,9 @@ returns-3 c =
     let a = c .before .before .before .before .before .before .before .before .before .before .before .before .before .args in (
       wrote-last (a .page .now) (a .at) _ _ (a .table .now) (a .shares) (a .masks) true
           (sym (c .before .before .before .before .before .before .before .before .before .before .computes .ensures) ∙ c .before .before .before .before .before .before .before .before .before .if1 .left)
-          (sym (c .before .before .before .before .before .before .before .before .computes2 .ensures) ∙ c .before .before .before .before .before .before .before .if2 .left) (sym (c .before .before .before .before .before .before .computes3 .ensures) ∙ c .before .before .before .before .before .if3 .taken) (c .before .before .write-text3 .ensures .0),
+          (sym (c .before .before .before .before .before .before .before .before .computes2 .ensures) ∙ c .before .before .before .before .before .before .before .if2 .left)
+          (sym (c .before .before .before .before .before .before .computes3 .ensures) ∙ c .before .before .before .before .before .if3 .taken)
+          (c .before .before .write-text3 .ensures .0),
       omega (arith, c .before .before .write-text3 .ensures .1),
     )
 
@@ -83,7 +88,9 @@ returns-4 c =
     let a = c .before .before .before .before .before .before .before .before .before .before .before .before .before .args in (
       wrote-last (a .page .now) (a .at) _ _ (a .table .now) (a .shares) (a .masks) false
           (sym (c .before .before .before .before .before .before .before .before .before .before .computes .ensures) ∙ c .before .before .before .before .before .before .before .before .before .if1 .left)
-          (sym (c .before .before .before .before .before .before .before .before .computes2 .ensures) ∙ c .before .before .before .before .before .before .before .if2 .left) (sym (c .before .before .before .before .before .before .computes3 .ensures) ∙ c .before .before .before .before .before .if3 .left) (c .before .before .write-text4 .ensures .0),
+          (sym (c .before .before .before .before .before .before .before .before .computes2 .ensures) ∙ c .before .before .before .before .before .before .before .if2 .left)
+          (sym (c .before .before .before .before .before .before .computes3 .ensures) ∙ c .before .before .before .before .before .if3 .left)
+          (c .before .before .write-text4 .ensures .0),
       omega (arith, c .before .before .write-text4 .ensures .1),
     )
 

@@ -18,7 +18,8 @@ same-length c = search needs
 returns : tie.Need-returns
 returns c =
     let a = c .before .before .before .before .before .before .before .args in (
-      wrote-ni (a .page .now) (a .at) _ _ (a .notion) (c .before .before .before .before .before .if1 .taken) (c .before .before .write-text .ensures .0),
+      wrote-ni (a .page .now) (a .at) _ _ (a .notion) (c .before .before .before .before .before .if1 .taken)
+          (c .before .before .write-text .ensures .0),
       omega (arith, c .before .before .write-text .ensures .1),
     )
 
@@ -34,7 +35,8 @@ same-length-2 c = search needs
 returns-2 : tie.Need-returns-2
 returns-2 c =
     let a = c .before .before .before .before .before .before .before .args in (
-      wrote-sni (a .page .now) (a .at) _ _ (a .notion) (c .before .before .before .before .before .if1 .left) (c .before .before .write-text2 .ensures .0),
+      wrote-sni (a .page .now) (a .at) _ _ (a .notion) (c .before .before .before .before .before .if1 .left)
+          (c .before .before .write-text2 .ensures .0),
       omega (arith, c .before .before .write-text2 .ensures .1),
     )
 

@@ -49,7 +49,8 @@ returns c =
     let end = c .before .before .write-text .ensures in (
       wrote-after (a .page .now) 0 _ _ _ _ _ _
           (wrote-after (a .page .now) 0 _ _ _ _ _ _
-          (wrote-after (a .page .now) 0 _ _ _ _ _ _ (wrote-after (a .page .now) 0 _ _ _ _ _ _ (first .0) (second .0)) (third .0)) (fourth .0)) (end .0),
+          (wrote-after (a .page .now) 0 _ _ _ _ _ _ (wrote-after (a .page .now) 0 _ _ _ _ _ _ (first .0) (second .0)) (third .0)) (fourth .0))
+          (end .0),
       omega (arith, first .1, second .1, third .1, fourth .1, end .1),
     )
 

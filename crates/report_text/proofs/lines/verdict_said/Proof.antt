@@ -38,12 +38,18 @@ part-write-wires-start c = search needs
 
 part-write-wires-end : tie.Need-part-write-wires-end
 part-write-wires-end c =
-    let few = shown-few _ _ _ (c .before .before .before .before .before .before .before .before .before .before .before .verdict .ensures .0) _ _ _ _ _ _ (c .before .before .before .before .before .before .before .before .answer .given .1) (c .before .before .before .before .before .before .before .before .before .before .before .verdict .ensures .1 .1) in
+    let few = shown-few _ _ _
+    (c .before .before .before .before .before .before .before .before .before .before .before .verdict .ensures .0) _ _ _ _ _ _
+    (c .before .before .before .before .before .before .before .before .answer .given .1)
+    (c .before .before .before .before .before .before .before .before .before .before .before .verdict .ensures .1 .1) in
     search needs
 
 write-wires-requires : tie.Need-write-wires-requires
 write-wires-requires c κs =
-    let few = shown-few _ _ _ (c .before .before .before .before .before .before .before .before .before .before .before .before .verdict .ensures .0) _ _ _ _ _ _ (c .before .before .before .before .before .before .before .before .before .answer .given .1) (c .before .before .before .before .before .before .before .before .before .before .before .before .verdict .ensures .1 .1) in
+    let few = shown-few _ _ _
+    (c .before .before .before .before .before .before .before .before .before .before .before .before .verdict .ensures .0) _ _ _ _ _ _
+    (c .before .before .before .before .before .before .before .before .before .answer .given .1)
+    (c .before .before .before .before .before .before .before .before .before .before .before .before .verdict .ensures .1 .1) in
     search needs
 
 enum-known-answer-2 : tie.Need-enum-known-answer-2
@@ -64,8 +70,11 @@ same-length c = search needs
 returns : tie.Need-returns
 returns c =
     let a = c .before .before .before .before .before .before .before .before .before .before .before .before .args in
-    let end = c .before .before .write-text .ensures in
-    (holds-said _ _ _ (c .before .before .before .before .before .before .before .before .verdict .ensures .0) (a .page .now) (a .at) _ _ (c .before .before .before .before .before .enum-told .given .1) (end .0), omega (arith, end .1))
+    let end = c .before .before .write-text .ensures in (
+      holds-said _ _ _ (c .before .before .before .before .before .before .before .before .verdict .ensures .0) (a .page .now) (a .at) _ _
+          (c .before .before .before .before .before .enum-told .given .1) (end .0),
+      omega (arith, end .1),
+    )
 
 same-length-2 : tie.Need-same-length-2
 same-length-2 c = search needs
@@ -75,8 +84,17 @@ returns-2 c =
     let a = c .before .before .before .before .before .before .before .before .before .before .before .before .before .before .before .before .before .before .before .args in
     let next = c .before .before .before .before .before .before .before .before .write-text2 .ensures in
     let end = c .before .before .write-wires .ensures in
-    let few = shown-few _ _ _ (c .before .before .before .before .before .before .before .before .before .before .before .before .before .before .before .verdict .ensures .0) _ _ _ _ _ _ (c .before .before .before .before .before .before .before .before .before .before .before .before .answer .given .1) (c .before .before .before .before .before .before .before .before .before .before .before .before .before .before .before .verdict .ensures .1 .1) in
-    (broken-said _ _ _ (c .before .before .before .before .before .before .before .before .before .before .before .before .before .before .before .verdict .ensures .0) (a .page .now) (a .at) _ _ _ _ _ (c .before .before .before .before .before .before .before .before .before .before .before .before .answer .given .1) (next .0) (end .0), search needs)
+    let few = shown-few _ _ _
+    (c .before .before .before .before .before .before .before .before .before .before .before .before .before .before .before .verdict .ensures .0) _ _ _ _ _ _
+    (c .before .before .before .before .before .before .before .before .before .before .before .before .answer .given .1)
+    (c .before .before .before .before .before .before .before .before .before .before .before .before .before .before .before .verdict .ensures .1 .1) in (
+      broken-said _ _ _
+          (c .before .before .before .before .before .before .before .before .before .before .before .before .before .before .before .verdict .ensures .0)
+          (a .page .now) (a .at) _ _ _ _ _
+          (c .before .before .before .before .before .before .before .before .before .before .before .before .answer .given .1) (next .0)
+          (end .0),
+      search needs,
+    )
 
 same-length-3 : tie.Need-same-length-3
 same-length-3 c = search needs
@@ -85,7 +103,9 @@ returns-3 : tie.Need-returns-3
 returns-3 c =
     let a = c .before .before .before .before .before .before .before .before .before .before .before .before .before .before .args in
     let end = c .before .before .write-named .ensures in (
-      refused-said _ _ _ (c .before .before .before .before .before .before .before .before .before .before .verdict .ensures .0) (a .page .now) (a .at) _ _ _ _ (c .before .before .before .before .before .before .before .answer2 .given .1) (c .before .before .before .number .ensures) (end .0),
+      refused-said _ _ _ (c .before .before .before .before .before .before .before .before .before .before .verdict .ensures .0) (a .page .now)
+          (a .at) _ _ _ _ (c .before .before .before .before .before .before .before .answer2 .given .1) (c .before .before .before .number .ensures)
+          (end .0),
       omega (arith, end .1),
     )
 

@@ -29,7 +29,8 @@ order-line-requires c κs = search needs
 
 mul-checked-lines : tie.Need-mul-checked-lines
 mul-checked-lines c =
-    let room = room-read _ _ _ _ _ _ _ _ (c .before .before .before .before .before .before .before .before .before .read-text .ensures .1) (c .before .before .before .before .before .before .read2 .given .1) in
+    let room = room-read _ _ _ _ _ _ _ _ (c .before .before .before .before .before .before .before .before .before .read-text .ensures .1)
+    (c .before .before .before .before .before .before .read2 .given .1) in
     search needs
 
 sub-checked-lines : tie.Need-sub-checked-lines
@@ -40,7 +41,9 @@ part-checked-lines-start c = search needs
 
 part-checked-lines-end : tie.Need-part-checked-lines-end
 part-checked-lines-end c =
-    let room = room-read _ _ _ _ _ _ _ _ (c .before .before .before .before .before .before .before .before .before .before .read-text .ensures .1) (c .before .before .before .before .before .before .before .read2 .given .1) in
+    let room = room-read _ _ _ _ _ _ _ _
+    (c .before .before .before .before .before .before .before .before .before .before .read-text .ensures .1)
+    (c .before .before .before .before .before .before .before .read2 .given .1) in
     search needs
 
 checked-lines-requires : tie.Need-checked-lines-requires
@@ -53,7 +56,9 @@ returns : tie.Need-returns
 returns c =
     let a = c .before .before .before .before .before .before .before .before .before .before .before .before .before .args in
     let end = c .before .before .refused-line .ensures in (
-      refused-reported _ _ _ (a .page .now) _ _ (c .before .before .before .before .before .before .before .before .before .read-text .ensures .0) _ _ _ (c .before .before .before .before .before .before .read .given .1) (c .before .before .before .number .ensures) (end .0),
+      refused-reported _ _ _ (a .page .now) _ _
+          (c .before .before .before .before .before .before .before .before .before .read-text .ensures .0) _ _ _
+          (c .before .before .before .before .before .before .read .given .1) (c .before .before .before .number .ensures) (end .0),
       omega (arith, end .1),
     )
 
@@ -65,7 +70,9 @@ returns-2 c =
     let a = c .before .before .before .before .before .before .before .before .before .before .before .before .before .before .before .before .before .before .args in
     let next = c .before .before .before .before .before .before .before .before .order-line .ensures in
     let end = c .before .before .checked-lines .ensures in (
-      read-reported _ _ _ (a .page .now) _ _ (c .before .before .before .before .before .before .before .before .before .before .before .before .before .before .read-text .ensures .0) _ _ _ _ _ _ (c .before .before .before .before .before .before .before .before .before .before .before .read2 .given .1) (next .0) (end .0),
+      read-reported _ _ _ (a .page .now) _ _
+          (c .before .before .before .before .before .before .before .before .before .before .before .before .before .before .read-text .ensures .0) _ _ _ _ _ _
+          (c .before .before .before .before .before .before .before .before .before .before .before .read2 .given .1) (next .0) (end .0),
       omega (arith, next .1, end .1),
     )
 
