@@ -1,5 +1,5 @@
 -- The lines of the report, by what the checks told.
---     wrote-product, wrote-sum, wrote-last                  the function's name, by what the function check says to each
+--     Named, wrote-product, wrote-sum, wrote-last           the function's name, by what the function check says to each
 --     wrote-ni, wrote-sni                                   the notion's name
 --     yes-said, no-said, none-said                          what the function check's answer says
 use Prim.Native.Nat.{ℕ}
@@ -17,7 +17,7 @@ use Rattle.report_text.specs.Report.{saysYes, functionLine, notionName}
 
 module _ (page : List ℕ) (at : ℕ) (after : List ℕ) (end : ℕ) where
   -- whether the function is the product, the sum, a copy
-  abbrev Named : Bool → Bool → Bool → Type 0
+  abbrev pub Named : Bool → Bool → Bool → Type 0
   Named product sum copy =
       Wrote page at
       (bytes "function " ++ cond product (bytes "product") (cond sum (bytes "sum") (cond copy (bytes "copy") (bytes "other"))) ++ bytes "\n")

@@ -2,7 +2,7 @@
 --     orderLine                     order, shares, mask count and wire count
 --     saysYes, functionName, functionLine     which function the function check says yes to
 --     notionName, said, verdictSaid, notionLine     what a verdict says
---     checked                       the four lines of a text that was read
+--     checked                       the line of the function and those of both notions
 --     refusedLine                   the one line of a text that is turned down
 --     emptyTable, emptySet          what is lent to the reading and to a verdict
 --     reported, readReported, report     the whole report
