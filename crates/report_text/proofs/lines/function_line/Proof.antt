@@ -56,7 +56,8 @@ returns-2 : tie.Need-returns-2
 returns-2 c =
     let a = c .before .before .before .before .before .before .before .before .before .before .before .args in (
       wrote-sum (a .page .now) (a .at) _ _ (a .table .now) (a .shares) (a .masks)
-          (sym (c .before .before .before .before .before .before .before .before .computes .ensures) ∙ c .before .before .before .before .before .before .before .if1 .left)
+          (sym (c .before .before .before .before .before .before .before .before .computes .ensures)
+          ∙ c .before .before .before .before .before .before .before .if1 .left)
           (sym (c .before .before .before .before .before .before .computes2 .ensures) ∙ c .before .before .before .before .before .if2 .taken)
           (c .before .before .write-text2 .ensures .0),
       omega (arith, c .before .before .write-text2 .ensures .1),
@@ -76,17 +77,26 @@ same-length-3 c = search needs
 
 -- the check has said no to the product and to the sum, and this to a copy
 last : (c : lts.After-computes3 calls reads.Pre reads.Post) (answer : Bool) (after : List ℕ) (end : ℕ) → c .computes3 .result ≡ answer
-    → Named (c .before .before .before .before .before .before .before .args .page .now) (c .before .before .before .before .before .before .before .args .at) after end false false answer
-    → Wrote (c .before .before .before .before .before .before .before .args .page .now) (c .before .before .before .before .before .before .before .args .at)
-    (functionLine (c .before .before .before .before .before .before .before .args .table .now) (c .before .before .before .before .before .before .before .args .shares) (c .before .before .before .before .before .before .before .args .masks)) after end
+    → Named (c .before .before .before .before .before .before .before .args .page .now)
+    (c .before .before .before .before .before .before .before .args .at) after end false false answer
+    → Wrote (c .before .before .before .before .before .before .before .args .page .now)
+    (c .before .before .before .before .before .before .before .args .at)
+    (functionLine (c .before .before .before .before .before .before .before .args .table .now)
+    (c .before .before .before .before .before .before .before .args .shares)
+    (c .before .before .before .before .before .before .before .args .masks)) after end
 last c answer after end e w =
     let a = c .before .before .before .before .before .before .before .args in
     wrote-last (a .page .now) (a .at) after end (a .table .now) (a .shares) (a .masks) answer
-    (sym (c .before .before .before .before .computes .ensures) ∙ c .before .before .before .if1 .left) (sym (c .before .before .computes2 .ensures) ∙ c .before .if2 .left) (sym (c .computes3 .ensures) ∙ e) w
+    (sym (c .before .before .before .before .computes .ensures) ∙ c .before .before .before .if1 .left)
+    (sym (c .before .before .computes2 .ensures) ∙ c .before .if2 .left)
+    (sym (c .computes3 .ensures) ∙ e) w
 
 returns-3 : tie.Need-returns-3
 returns-3 c =
-    let name = c .before .before .write-text3 .ensures in (last (c .before .before .before .before .before .before) true _ _ (c .before .before .before .before .before .if3 .taken) (name .0), omega (arith, name .1))
+    let name = c .before .before .write-text3 .ensures in (
+      last (c .before .before .before .before .before .before) true _ _ (c .before .before .before .before .before .if3 .taken) (name .0),
+      omega (arith, name .1),
+    )
 
 slice-aggregate-write-text-4 : tie.Need-slice-aggregate-write-text-4
 slice-aggregate-write-text-4 c = search needs
@@ -99,7 +109,10 @@ same-length-4 c = search needs
 
 returns-4 : tie.Need-returns-4
 returns-4 c =
-    let name = c .before .before .write-text4 .ensures in (last (c .before .before .before .before .before .before) false _ _ (c .before .before .before .before .before .if3 .left) (name .0), omega (arith, name .1))
+    let name = c .before .before .write-text4 .ensures in (
+      last (c .before .before .before .before .before .before) false _ _ (c .before .before .before .before .before .if3 .left) (name .0),
+      omega (arith, name .1),
+    )
 
 pub function-line-spec : {M : Type 1} → statement M
 function-line-spec =
