@@ -151,9 +151,10 @@ starred =
     -- the empty set breaks nothing
     ∷ is (emptyBreaks (bytes textB) 1) (values [])
     ∷ is (emptyBreaks (bytes textB) 2) (values [])
-    -- and, beyond the scope's own, a break of two wires at order 2
+    -- and, beyond the scope's own, a break of two wires at order 2, and a function that is none of the three
     ∷ prints "ORDER = 2\nMASKS = [r0, r1]\na0 r0\na1 r1\n(a2 r0) r1\n"
     "order 2 shares 3 masks 2 wires 9\nfunction copy\nNI holds\nSNI broken 2 7\n"
+    ∷ prints "ORDER = 1\nMASKS = []\nb0\nb1\n" "order 1 shares 2 masks 0 wires 4\nfunction other\nNI holds\nSNI broken 1\n"
     -- 512 wires, size 4: 2,829,877,120 sets; job 2 of 16 starts at 353,734,640, where a 32-bit product would say 85,299,184
     ∷ is (setsOf 512 4) (values (2829877120 ∷ []))
     ∷ is (ranksOf 512 4 2 16) (values (353734640 ∷ 530601960 ∷ []))
