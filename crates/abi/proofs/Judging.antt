@@ -1,0 +1,181 @@
+-- The paths of the operations on a table: what each tells, and what its numbers mean, from what the entry promises of the answer.
+--     function-yes, function-no, function-refused
+--     verdict-holds, verdict-broken, verdict-refused
+--     range-clean, range-found, range-refused
+use Prim.Native.Nat.{ℕ, _<_}
+use native.Mathlib.Omega.{arith}
+use mathlib.Core.Path.{_≡_, refl, sym, _∙_, ap}
+use mathlib.Core.Logic.{_⊎_, inl, inr}
+use mathlib.Core.List.{List, [], _∷_}
+use Rattle.basics.specs.Told.{Lent}
+use Rattle.table.specs.declared.FunctionAnswer.{FunctionAnswer}
+use Rattle.table.specs.declared.Refusal as table-refusal
+use Rattle.table.specs.Answers as table-answers
+use Rattle.verdict.specs.declared.VerdictAnswer.{VerdictAnswer}
+use Rattle.verdict.specs.declared.RangeAnswer.{RangeAnswer}
+use Rattle.verdict.specs.declared.Refusal.{Refusal}
+use Rattle.verdict.specs.Answers.{refusalNumber, verdictTold, rangeTold, verdictOf, rangeCheck}
+use Rattle.verdict.specs.Guarantee.{Guarantee}
+use Rattle.verdict.specs.First.{VerdictFinds, RangeFinds}
+use Rattle.abi.specs.Calls.{got, answered, lentJudged}
+use Rattle.abi.specs.Meaning.{FunctionSays, VerdictSays, VerdictShows, RangeShows}
+use Rattle.abi.proofs.Answering.{gave, refused, judged-refused}
+
+-- a refusal's number is not 0, so status 0 is no refusal
+table-positive : (why : table-refusal.Refusal) → 0 < table-answers.refusalNumber why
+table-positive table-refusal.the-variants.SharesOrMasks = omega arith
+table-positive table-refusal.the-variants.TableLength = omega arith
+table-positive table-refusal.the-variants.RecordOutOfRange = omega arith
+table-positive table-refusal.the-variants.NoSuchFunction = omega arith
+
+verdict-positive : (why : Refusal) → 0 < refusalNumber why
+verdict-positive (Refusal.Table why) = table-positive why
+verdict-positive Refusal.NoSuchNotion = omega arith
+verdict-positive Refusal.OrderOutOfRange = omega arith
+verdict-positive Refusal.BufferTooShort = omega arith
+verdict-positive Refusal.SizeTooLarge = omega arith
+verdict-positive Refusal.RanksOutOfRange = omega arith
+
+module _ (table : List ℕ) (shares masks function : ℕ) where
+  abbrev FunctionPromise : ℕ → ℕ → ℕ → Type 0
+  FunctionPromise status bit before =
+      (got status (bit ∷ []) [] ≡ answered (table-answers.functionCheck table shares masks function) (before ∷ []) [])
+      × FunctionSays status bit table shares masks function
+
+  module _ (answer : FunctionAnswer) (told : table-answers.functionTold answer ≡ table-answers.functionCheck table shares masks function)
+      (means : table-answers.FunctionMeans answer table shares masks function) (before : ℕ) where
+    pub function-yes : answer ≡ FunctionAnswer.Yes → FunctionPromise 0 1 before
+    function-yes e = (
+      gave _ _ _ (ap table-answers.functionTold (sym e) ∙ told),
+      record { either = λ zero. inl refl; yes-exactly = λ zero. (λ one. means .yes-means e, λ adds. refl) },
+    )
+
+    pub function-no : answer ≡ FunctionAnswer.No → FunctionPromise 0 0 before
+    function-no e = (
+      gave _ _ _ (ap table-answers.functionTold (sym e) ∙ told),
+      record { either = λ zero. inr refl; yes-exactly = λ zero. (λ one. absurd (omega (arith, one)), λ adds. absurd (means .no-means e adds)) },
+    )
+
+    pub function-refused : (why : table-refusal.Refusal) (status : ℕ) → answer ≡ FunctionAnswer.Refused why → status ≡ table-answers.refusalNumber why
+        → FunctionPromise status before before
+    function-refused why status e s = (
+      refused _ _ _ _ (ap table-answers.functionTold (sym e) ∙ told) s,
+      record {
+        either = λ zero. absurd (omega (arith, table-positive why));
+        yes-exactly = λ zero. absurd (omega (arith, table-positive why));
+      },
+    )
+
+-- ---- the verdict
+
+module _ (table : List ℕ) (shares masks notion order : ℕ) (buffer held : List ℕ) where
+  abbrev VerdictPromise : ℕ → ℕ → ℕ → ℕ → ℕ → Type 0
+  VerdictPromise status holds size holds-before size-before =
+      (got status (holds ∷ size ∷ []) held
+      ≡ lentJudged (verdictOf table shares masks notion order buffer) (holds-before ∷ size-before ∷ []))
+      × (VerdictShows status holds size table shares masks notion order buffer held
+      × VerdictSays status holds size table shares masks notion order held)
+
+  module _ (answer : VerdictAnswer) (told : verdictTold answer held ≡ verdictOf table shares masks notion order buffer)
+      (finds : VerdictFinds answer table shares masks notion order buffer held) (guarantee : Guarantee answer table shares masks notion order held)
+      (holds-before size-before : ℕ) where
+    accepted : (size : ℕ) → answer ≡ VerdictAnswer.Broken size → (why : Refusal) → answer ≡ VerdictAnswer.Refused why → ⊥
+    accepted size e why f = let z : _≡_ {A = ℕ} 0 1 = cc in omega (arith, z)
+
+    pub verdict-holds : answer ≡ VerdictAnswer.Holds → VerdictPromise 0 1 size-before holds-before size-before
+    verdict-holds e = (
+      ap (λ (a : Lent). lentJudged a (holds-before ∷ size-before ∷ [])) (ap (λ (a : VerdictAnswer). verdictTold a held) (sym e) ∙ told),
+      (
+        record {
+          none = λ zero one. finds .holds e;
+          first = λ zero one. absurd (omega (arith, one));
+          refused = λ no. absurd (no refl);
+        },
+        record {
+          either = λ zero. inl refl;
+          holds-exactly = λ zero.
+              let exactly = guarantee .holds-exactly (λ why f. let z : _≡_ {A = ℕ} 0 1 = cc in omega (arith, z)) in
+              (λ one. exactly .0 e, λ all. refl);
+          broken-shows = λ zero one. absurd (omega (arith, one));
+        },
+      ),
+    )
+
+    pub verdict-broken : (size : ℕ) → answer ≡ VerdictAnswer.Broken size → VerdictPromise 0 0 size holds-before size-before
+    verdict-broken size e = (
+      ap (λ (a : Lent). lentJudged a (holds-before ∷ size-before ∷ [])) (ap (λ (a : VerdictAnswer). verdictTold a held) (sym e) ∙ told),
+      (
+        record {
+          none = λ zero one. absurd (omega (arith, one));
+          first = λ zero one. finds .broken size e;
+          refused = λ no. absurd (no refl);
+        },
+        record {
+          either = λ zero. inr refl;
+          holds-exactly = λ zero. (
+            λ one. absurd (omega (arith, one)),
+            λ all. let h = guarantee .holds-exactly (accepted size e) .1 all in let z : _≡_ {A = ℕ} 0 1 = cc in absurd (omega (arith, z)),
+          );
+          broken-shows = λ zero one. guarantee .broken-shows size e;
+        },
+      ),
+    )
+
+    pub verdict-refused : (why : Refusal) (status : ℕ) → answer ≡ VerdictAnswer.Refused why → status ≡ refusalNumber why
+        → VerdictPromise status holds-before size-before holds-before size-before
+    verdict-refused why status e s =
+        let positive = verdict-positive why in (
+          judged-refused _ _ _ _ _ (ap (λ (a : VerdictAnswer). verdictTold a held) (sym e) ∙ told) s,
+          (
+            record { none = λ zero. absurd (omega arith); first = λ zero. absurd (omega arith); refused = λ no. finds .refused why e },
+            record { either = λ zero. absurd (omega arith); holds-exactly = λ zero. absurd (omega arith); broken-shows = λ zero. absurd (omega arith) },
+          ),
+        )
+
+-- ---- the range check
+
+module _ (table : List ℕ) (shares masks notion size from to : ℕ) (buffer held : List ℕ) where
+  abbrev RangePromise : ℕ → ℕ → ℕ → ℕ → List ℕ → Type 0
+  RangePromise status clean found rank before =
+      (got status (clean ∷ found ∷ rank ∷ []) held ≡ lentJudged (rangeCheck table shares masks notion size from to buffer) before)
+      × RangeShows status clean found rank table shares masks notion size from to buffer held
+
+  module _ (answer : RangeAnswer) (told : rangeTold answer held ≡ rangeCheck table shares masks notion size from to buffer)
+      (finds : RangeFinds answer table shares masks notion size from to buffer held) (clean-before found-before rank-before : ℕ) where
+    abbrev before : List ℕ
+    before = clean-before ∷ found-before ∷ rank-before ∷ []
+
+    pub range-clean : answer ≡ RangeAnswer.Clean → RangePromise 0 1 found-before rank-before before
+    range-clean e = (
+      ap (λ (a : Lent). lentJudged a before) (ap (λ (a : RangeAnswer). rangeTold a held) (sym e) ∙ told),
+      record {
+        either = λ zero. inl refl;
+        none = λ zero one. finds .clean e;
+        first = λ zero one. absurd (omega (arith, one));
+        refused = λ no. absurd (no refl);
+      },
+    )
+
+    pub range-found : (found rank : ℕ) → answer ≡ RangeAnswer.Found found rank → RangePromise 0 0 found rank before
+    range-found found rank e = (
+      ap (λ (a : Lent). lentJudged a before) (ap (λ (a : RangeAnswer). rangeTold a held) (sym e) ∙ told),
+      record {
+        either = λ zero. inr refl;
+        none = λ zero one. absurd (omega (arith, one));
+        first = λ zero one. finds .found found rank e;
+        refused = λ no. absurd (no refl);
+      },
+    )
+
+    pub range-refused : (why : Refusal) (status : ℕ) → answer ≡ RangeAnswer.Refused why → status ≡ refusalNumber why
+        → RangePromise status clean-before found-before rank-before before
+    range-refused why status e s =
+        let positive = verdict-positive why in (
+          judged-refused _ _ _ _ _ (ap (λ (a : RangeAnswer). rangeTold a held) (sym e) ∙ told) s,
+          record {
+            either = λ zero. absurd (omega arith);
+            none = λ zero. absurd (omega arith);
+            first = λ zero. absurd (omega arith);
+            refused = λ no. finds .refused why e;
+          },
+        )

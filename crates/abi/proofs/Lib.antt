@@ -1,0 +1,11 @@
+-- What the proofs of the exported functions use.
+--     Answering   what is told of an answer, put into a status and the lent numbers
+--     Ranking     the paths of set from rank
+--     Judging     the paths of the operations on a table
+--     Reading     the paths of the operations on a text
+--     Samples     examples, proved by running the definitions
+pub mod Answering
+pub mod Ranking
+pub mod Judging
+pub mod Reading
+pub mod Samples

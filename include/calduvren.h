@@ -1,0 +1,225 @@
+/*
+ * Calduvren: a probing verifier for masked gadgets over bits, for callers in C and C++.
+ *
+ * A gadget computes on two operands, a and b, each a secret bit split into shares, and adds random bits, the masks.
+ * A watcher reads a few of its wires. The functions below read a gadget's description into a table of its wires, check
+ * its function, say whether it is NI and SNI at an order and show the first breaking set, number the sets of wires and
+ * divide the search over machines.
+ *
+ * What every function does
+ *
+ * - It returns a status: 0, or the number of the refusal. A refusal alters no lent memory; the one exception is the
+ *   `offset` of calduvren_read_text, which says where in the text the refusal is. The refusals of each function are
+ *   listed in the order in which they are tested, and nothing else is refused.
+ * - With status 0 it writes its answer through the pointers. A number that is named below as written is written, and
+ *   no other is touched; of a lent buffer nothing is touched past what is written.
+ * - Every number may have any value and every buffer any contents. A call always returns.
+ * - `yes`, `holds` and `clean` are 1 where the answer is good and 0 where it is not: a caller that sets them to 0
+ *   beforehand takes no refusal for a good answer.
+ *
+ * What a caller owes
+ *
+ * - A pointer that comes with a length is valid for so many elements (bytes, or 16-bit numbers), and a pointer to a
+ *   number for that number. No pointer is null, also where the length is 0, and each is aligned for its type.
+ * - What a call writes overlaps nothing else that it is given: the lent numbers and the buffers are apart.
+ * - No other thread writes to what is lent, or reads what is written, until the call has returned. Beside this any
+ *   number of calls may run at the same time: there is no state between calls.
+ * - There are CALDUVREN_STACK_BYTES of stack.
+ */
+#ifndef CALDUVREN_H
+#define CALDUVREN_H
+
+#include <stddef.h>
+#include <stdint.h>
+
+#ifdef __cplusplus
+extern "C" {
+#endif
+
+#define CALDUVREN_MAX_TEXT_BYTES 4096
+#define CALDUVREN_RECORD_BYTES 24
+#define CALDUVREN_MAX_WIRES 512
+#define CALDUVREN_MAX_TABLE_BYTES 12288
+#define CALDUVREN_MAX_SHARES 8
+#define CALDUVREN_MAX_MASKS 64
+#define CALDUVREN_MAX_ORDER 7
+#define CALDUVREN_MAX_SIZE 7
+#define CALDUVREN_MAX_JOBS 65536
+#define CALDUVREN_MAX_REPORT_BYTES 512
+#define CALDUVREN_STACK_BYTES 262144
+
+/* The notions. */
+#define CALDUVREN_NI 1
+#define CALDUVREN_SNI 2
+
+/* The functions of calduvren_function_check. */
+#define CALDUVREN_PRODUCT 1
+#define CALDUVREN_SUM 2
+#define CALDUVREN_COPY 3
+
+/* 0, or the number of a refusal. */
+typedef uint64_t calduvren_status;
+
+/*
+ * Reads a description text into the table of its wires, a record of 24 bytes for each:
+ *   bytes 0 to 7    products, bit 8i + j for share i of a and share j of b     (all numbers little-endian)
+ *   bytes 8 to 15   masks, bit k for mask k
+ *   byte 16, 17     shares of a, shares of b, bit i for share i
+ *   byte 18         0 inner, 1 outer
+ *   byte 19         number of the output line from 0; 0 for an inner wire
+ *   bytes 20, 21    offset in the text of the part that computes the wire; bytes 22, 23 its length
+ *
+ * Written with status 0: order, shares (of each operand), masks (how many) and wires, and the first 24 * wires bytes of
+ * table. A table of CALDUVREN_MAX_TABLE_BYTES is always long enough.
+ * Written with any other status: offset, the place in the text.
+ *
+ * Refusals, that at the lowest offset, and at one offset the first of:
+ *   1   over 4,096 bytes (offset 4,096; before all others)
+ *   2   first line wrong (offset 0)
+ *   3   second line wrong or absent (where it starts, or the text's length)
+ *   9   a line too many (its first byte that is no space)
+ *   8   a parenthesis opened when sixteen are open
+ *   7   a bar
+ *   4   no such symbol, or a share beyond the order (its start)
+ *   5   a mask that is not declared (its start)
+ *   6   a closing parenthesis with none open or nothing inside; at a line's end, one still open
+ *   9   lines too few (the text's length)
+ *   10  over 512 wires, or table too short (the text's length)
+ */
+calduvren_status calduvren_read_text(const uint8_t *text, size_t text_length, uint8_t *table, size_t table_length,
+                                     size_t *order, size_t *shares, size_t *masks, size_t *wires, size_t *offset);
+
+/*
+ * Where the part of the text that computes a wire stands: text[offset] up to, without, text[offset + length].
+ *
+ * Written: offset and length; offset + length is at most text_length.
+ *
+ * Refusals:
+ *   12  table_length no multiple of 24, or over 12,288
+ *   21  wire beyond the table
+ *   22  the part lies outside the text
+ */
+calduvren_status calduvren_text_part(const uint8_t *text, size_t text_length, const uint8_t *table, size_t table_length,
+                                     size_t wire, size_t *offset, size_t *length);
+
+/*
+ * Whether the outer wires of a table add up, for every value of shares and masks, to a function: CALDUVREN_PRODUCT of
+ * the two operands, their CALDUVREN_SUM, or operand a, CALDUVREN_COPY.
+ *
+ * Written: yes, 1 or 0.
+ *
+ * Refusals:
+ *   11  shares not 2 to 8, or masks over 64
+ *   12  table_length no multiple of 24, or over 12,288
+ *   13  a record with a bit beyond shares or masks, or byte 18 over 1
+ *   20  function not 1 to 3
+ */
+calduvren_status calduvren_function_check(const uint8_t *table, size_t table_length, size_t shares, size_t masks,
+                                          size_t function, uint64_t *yes);
+
+/*
+ * Whether a table is CALDUVREN_NI or CALDUVREN_SNI at an order: whether for every set of at most that many wires, shares
+ * of a and of b can be chosen, of each no more than the set has wires (for SNI, inner wires), so that inputs that agree
+ * on them give every pattern on the set's wires from equally many mask settings.
+ *
+ * Written: holds, 1 or 0. Where it is 0 also size, and the wire numbers of the first breaking set in rising size and
+ * rank, rising, in the first `size` elements of set. No such choice can be made for that set.
+ *
+ * Refusals:
+ *   11  shares not 2 to 8, or masks over 64
+ *   12  table_length no multiple of 24, or over 12,288
+ *   13  a record with a bit beyond shares or masks, or byte 18 over 1
+ *   14  notion not 1 or 2
+ *   15  order not 1 to shares - 1
+ *   16  set_length below order
+ */
+calduvren_status calduvren_verdict(const uint8_t *table, size_t table_length, size_t shares, size_t masks,
+                                   size_t notion, size_t order, uint16_t *set, size_t set_length,
+                                   uint64_t *holds, size_t *size);
+
+/*
+ * Whether no set of `size` wires at the ranks from `from` up to, without, `to` breaks the notion.
+ *
+ * Written: clean, 1 or 0. Where it is 0 also found (the set's size, which is `size`), rank, and the wire numbers of the
+ * set at the first such rank, rising, in the first `size` elements of set.
+ *
+ * Refusals:
+ *   11  shares not 2 to 8, or masks over 64
+ *   12  table_length no multiple of 24, or over 12,288
+ *   13  a record with a bit beyond shares or masks, or byte 18 over 1
+ *   14  notion not 1 or 2
+ *   17  size over 7
+ *   16  set_length below size
+ *   18  from above to, or to above the number of sets of that size
+ */
+calduvren_status calduvren_range_check(const uint8_t *table, size_t table_length, size_t shares, size_t masks,
+                                       size_t notion, size_t size, uint64_t from, uint64_t to,
+                                       uint16_t *set, size_t set_length, uint64_t *clean, size_t *found, uint64_t *rank);
+
+/*
+ * How many sets of `size` out of `wires` wires there are.
+ *
+ * Written: sets.
+ *
+ * Refusals:
+ *   12  wires over 512
+ *   17  size over 7
+ */
+calduvren_status calduvren_set_count(size_t wires, size_t size, uint64_t *sets);
+
+/*
+ * The set at a rank, in revolving-door order; ranks start at 0.
+ *
+ * Written: the set's wire numbers, rising, in the first `size` elements of set.
+ *
+ * Refusals:
+ *   12  wires over 512
+ *   17  size over 7
+ *   16  set_length below size
+ *   18  rank not below the number of sets
+ */
+calduvren_status calduvren_set_from_rank(size_t wires, size_t size, uint64_t rank, uint16_t *set, size_t set_length);
+
+/*
+ * The rank of a set among the sets of its size, which is set_length.
+ *
+ * Written: rank.
+ *
+ * Refusals:
+ *   12  wires over 512
+ *   17  set_length over 7
+ *   21  wire numbers not strictly rising, or not below wires
+ */
+calduvren_status calduvren_rank_from_set(size_t wires, const uint16_t *set, size_t set_length, uint64_t *rank);
+
+/*
+ * The ranks that job number `job`, from 0, of `jobs` has to visit: from `from` up to, without, `to`. The jobs of one
+ * division visit each set exactly once.
+ *
+ * Written: from and to.
+ *
+ * Refusals:
+ *   12  wires over 512
+ *   17  size over 7
+ *   19  no jobs, over 65,536, or job not below jobs
+ */
+calduvren_status calduvren_job(size_t wires, size_t size, uint64_t job, uint64_t jobs, uint64_t *from, uint64_t *to);
+
+/*
+ * The report on a description text: what was read, its function and both verdicts at its order, or its refusal, in lines
+ * that end in byte 10.
+ *
+ * Written: length, and the report's bytes in the first `length` bytes of buffer. No byte 0 follows them. A buffer of
+ * CALDUVREN_MAX_REPORT_BYTES is always long enough.
+ *
+ * Refusals:
+ *   16  buffer_length below the report's length
+ */
+calduvren_status calduvren_report_text(const uint8_t *text, size_t text_length, uint8_t *buffer, size_t buffer_length,
+                                       size_t *length);
+
+#ifdef __cplusplus
+}
+#endif
+
+#endif
