@@ -26,8 +26,8 @@ pub extern "C" fn calduvren_read_text(
 {
     let answer = reader::read_text(text, table);
     match answer {
-        ReadAnswer::Refused { why, offset: place } => {
-            *offset = place;
+        ReadAnswer::Refused { why, offset: fault } => {
+            *offset = fault;
             why.number()
         }
         ReadAnswer::Read {
@@ -61,10 +61,10 @@ pub extern "C" fn calduvren_text_part(
     match answer {
         PartAnswer::Refused(why) => why.number(),
         PartAnswer::Part {
-            offset: place,
+            offset: start,
             length,
         } => {
-            *offset = place;
+            *offset = start;
             *size = length;
             0
         }
@@ -80,8 +80,8 @@ pub extern "C" fn calduvren_report_text(text: &[u8], buffer: &mut [u8], size: &m
     let answer = report_text::report(text, buffer);
     match answer {
         ReportAnswer::Refused(why) => why.number(),
-        ReportAnswer::Written { length } => {
-            *size = length;
+        ReportAnswer::Written { length: bytes } => {
+            *size = bytes;
             0
         }
     }

@@ -1,0 +1,33 @@
+/*
+ * Two searches in C for the first breaking set among the sets of one size, to time the engine's range check against.
+ * Both visit the sets in the order of their ranks and look at the records where they stand in the table.
+ */
+#ifndef WALK_H
+#define WALK_H
+
+#include <stddef.h>
+#include <stdint.h>
+
+/* A table that the engine accepts, the notion, and the ranks to visit: from `from` up to, without, `to`. */
+struct range {
+    const uint8_t *table;
+    size_t wires;
+    size_t notion;
+    size_t size;
+    uint64_t from, to;
+};
+
+/* Fills the table of counts. To be called once, before all else. */
+void walk_prepare(void);
+
+/* How many sets of `size` out of `wires` wires there are. */
+uint64_t walk_count(size_t wires, size_t size);
+
+/* The first breaking rank, with its set in `set`, or `to` where none breaks. Each set is worked out from its rank by
+ * the table of counts, and its records are added up anew. */
+uint64_t walk_by_rank(const struct range *range, uint16_t *set);
+
+/* The same. Neighbours in the order differ in one wire: it leaves the running sum, another enters. */
+uint64_t walk_by_exchange(const struct range *range, uint16_t *set);
+
+#endif

@@ -1,0 +1,70 @@
+//! The C interface, word for word from include/calduvren.h.
+
+extern "C" {
+    pub fn calduvren_read_text(
+        text: *const u8,
+        text_length: usize,
+        table: *mut u8,
+        table_length: usize,
+        order: *mut usize,
+        shares: *mut usize,
+        masks: *mut usize,
+        wires: *mut usize,
+        offset: *mut usize,
+    ) -> u64;
+    pub fn calduvren_text_part(
+        text: *const u8,
+        text_length: usize,
+        table: *const u8,
+        table_length: usize,
+        wire: usize,
+        offset: *mut usize,
+        length: *mut usize,
+    ) -> u64;
+    pub fn calduvren_function_check(
+        table: *const u8,
+        table_length: usize,
+        shares: usize,
+        masks: usize,
+        function: usize,
+        yes: *mut u64,
+    ) -> u64;
+    pub fn calduvren_verdict(
+        table: *const u8,
+        table_length: usize,
+        shares: usize,
+        masks: usize,
+        notion: usize,
+        order: usize,
+        set: *mut u16,
+        set_length: usize,
+        holds: *mut u64,
+        size: *mut usize,
+    ) -> u64;
+    pub fn calduvren_range_check(
+        table: *const u8,
+        table_length: usize,
+        shares: usize,
+        masks: usize,
+        notion: usize,
+        size: usize,
+        from: u64,
+        to: u64,
+        set: *mut u16,
+        set_length: usize,
+        clean: *mut u64,
+        found: *mut usize,
+        rank: *mut u64,
+    ) -> u64;
+    pub fn calduvren_set_count(wires: usize, size: usize, sets: *mut u64) -> u64;
+    pub fn calduvren_set_from_rank(wires: usize, size: usize, rank: u64, set: *mut u16, set_length: usize) -> u64;
+    pub fn calduvren_rank_from_set(wires: usize, set: *const u16, set_length: usize, rank: *mut u64) -> u64;
+    pub fn calduvren_job(wires: usize, size: usize, job: u64, jobs: u64, from: *mut u64, to: *mut u64) -> u64;
+    pub fn calduvren_report_text(
+        text: *const u8,
+        text_length: usize,
+        buffer: *mut u8,
+        buffer_length: usize,
+        length: *mut usize,
+    ) -> u64;
+}

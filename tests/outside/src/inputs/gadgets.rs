@@ -1,0 +1,119 @@
+//! Descriptions of gadgets from the literature and near misses of them: multiplication of Ishai, Sahai and Wagner,
+//! refreshing in a ring or pair by pair, sums and plain copies.
+
+use crate::random::Random;
+
+/// A description before it becomes bytes.
+pub struct Description {
+    pub order: usize,
+    pub masks: usize,
+    pub lines: Vec<String>,
+}
+
+impl Description {
+    fn new(order: usize, masks: usize, line: impl Fn(usize) -> String) -> Description {
+        Description {
+            order,
+            masks,
+            lines: (0..=order).map(line).collect(),
+        }
+    }
+
+    pub fn text(&self) -> Vec<u8> {
+        let names: Vec<String> = (0..self.masks).map(|k| format!("r{k}")).collect();
+        let lines = self.lines.join("\n");
+        format!("ORDER = {}\nMASKS = [{}]\n{lines}\n", self.order, names.join(", ")).into_bytes()
+    }
+}
+
+/// How the two products of a pair of shares are added to the pair's mask.
+#[derive(Clone, Copy)]
+pub enum Cross {
+    /// The right way: the mask is there before the second product comes.
+    MaskFirst,
+    /// The products meet without the mask, as in the scope's example B.
+    MaskLast,
+    /// One mask serves all pairs.
+    OneMask,
+    NoMask,
+}
+
+const CROSSES: [Cross; 6] = [
+    Cross::MaskFirst,
+    Cross::MaskFirst,
+    Cross::MaskFirst,
+    Cross::MaskLast,
+    Cross::OneMask,
+    Cross::NoMask,
+];
+
+/// The number of the mask for the shares i and j, i below j; with all pairs below j shares, also how many there are.
+fn pair(i: usize, j: usize) -> usize {
+    j * (j - 1) / 2 + i
+}
+
+fn cross_term(i: usize, j: usize, cross: Cross) -> String {
+    let (low, high) = (i.min(j), i.max(j));
+    let mask = if matches!(cross, Cross::OneMask) {
+        0
+    } else {
+        pair(low, high)
+    };
+    match (i < j, cross) {
+        (_, Cross::NoMask) => format!("s{i}{j}"),
+        (true, _) => format!("r{mask}"),
+        (false, Cross::MaskLast) => format!("((s{low}{high} s{high}{low}) r{mask})"),
+        (false, _) => format!("((r{mask} s{low}{high}) s{high}{low})"),
+    }
+}
+
+/// Line i of the result is share i times share i, and for each other share the pair's mask or its masked products.
+pub fn multiplication(order: usize, cross: impl Fn(usize, usize) -> Cross) -> Description {
+    Description::new(order, pair(0, order + 1), |i| {
+        let others = (0..=order)
+            .filter(|j| *j != i)
+            .map(|j| cross_term(i, j, cross(i.min(j), i.max(j))));
+        format!("s{i}{i} {}", others.collect::<Vec<_>>().join(" "))
+    })
+}
+
+/// Copies with a fresh mask for each pair of shares.
+fn pair_refresh(order: usize) -> Description {
+    Description::new(order, pair(0, order + 1), |i| {
+        let others = (0..=order)
+            .filter(|j| *j != i)
+            .map(|j| format!(" r{}", pair(i.min(j), i.max(j))));
+        format!("a{i}{}", others.collect::<String>())
+    })
+}
+
+/// A gadget of an order from 1 to `most`, right or nearly so.
+pub fn any(random: &mut Random, most: usize) -> Description {
+    let order = random.between(1, most);
+    let next = |i: usize| (i + 1) % (order + 1);
+    let mut gadget = match random.below(8) {
+        0..=2 => {
+            let (usual, unusual) = (random.pick(&CROSSES), random.pick(&CROSSES));
+            let place = (random.below(order), random.between(1, order));
+            multiplication(order, |i, j| if (i, j) == place { unusual } else { usual })
+        }
+        3 => Description::new(order, order + 1, |i| format!("a{i} r{i} r{}", next(i))),
+        4 => pair_refresh(order),
+        5 => Description::new(order, 0, |i| format!("a{i} b{i}")),
+        6 => Description::new(order, 0, |i| format!("a{i}")),
+        _ => Description::new(order, order + 1, |i| format!("(a{i} r{i}) (b{i} r{})", next(i))),
+    };
+    if random.chance(40) {
+        exchange_symbols(random, &mut gadget);
+    }
+    gadget
+}
+
+/// Puts one symbol of a description in the place of another, parentheses kept.
+fn exchange_symbols(random: &mut Random, gadget: &mut Description) {
+    let lines = gadget.lines.join(" ");
+    let symbols: Vec<&str> = lines.split([' ', '(', ')']).filter(|word| !word.is_empty()).collect();
+    let (old, new) = (random.pick(&symbols), random.pick(&symbols));
+    let line = random.below(gadget.lines.len());
+    gadget.lines[line] = gadget.lines[line].replacen(old, new, 1);
+}

@@ -1,0 +1,17 @@
+//! The inputs of a run: texts of every kind, sound and damaged, and tables with the calls made on them.
+
+pub mod calls;
+pub mod damage;
+pub mod gadgets;
+pub mod tables;
+pub mod texts;
+
+/// Numbers that no limit of the scope allows, some with low bits that would be allowed if they were all that is read.
+pub const HUGE: [usize; 6] = [
+    usize::MAX,
+    usize::MAX - 1,
+    1 << 63,
+    (1 << 32) + 1,
+    (1 << 32) + 2,
+    (1 << 16) + 3,
+];

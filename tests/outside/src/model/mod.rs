@@ -1,0 +1,174 @@
+//! The model: the scope written down a second time, as a program of its own. Here are the ten entries, each with its
+//! refusals in the scope's order; the modules hold what they rest on.
+
+pub mod breaking;
+pub mod functions;
+pub mod reading;
+pub mod records;
+pub mod report;
+pub mod sets;
+pub mod symbols;
+pub mod trees;
+pub mod wires;
+
+use crate::reply::Reply;
+use breaking::{Found, TooMany, NI, SCOPE, SNI};
+use functions::{COPY, PRODUCT, SUM};
+use reading::Reading;
+use records::{length_is_wrong, parse, tested, to_bytes, MAX_WIRES, RECORD_BYTES};
+use sets::{MAX_JOBS, MAX_SIZE};
+use trees::Fault;
+
+/// The reply to read_text, from what the text describes.
+pub fn read_text(reading: &Result<Reading, Fault>) -> Reply {
+    match reading {
+        Ok(reading) => {
+            let numbers = [reading.order, reading.shares(), reading.masks, reading.wires.len()];
+            let table = to_bytes(&reading.wires).into_iter().map(u16::from).collect();
+            Reply::answered(&numbers.map(|number| number as u64), table)
+        }
+        Err(fault) => {
+            let mut reply = Reply::refused(fault.cause.number_and_word().0);
+            reply.numbers[4] = Some(fault.offset as u64);
+            reply
+        }
+    }
+}
+
+pub fn text_part(text: &[u8], table: &[u8], wire: usize) -> Reply {
+    if length_is_wrong(table) {
+        return Reply::refused(12);
+    }
+    if wire >= table.len() / RECORD_BYTES {
+        return Reply::refused(21);
+    }
+    let record = parse(&table[RECORD_BYTES * wire..])[0];
+    let (offset, length) = (u64::from(record.offset), u64::from(record.length));
+    if offset + length > text.len() as u64 {
+        return Reply::refused(22);
+    }
+    Reply::answered(&[offset, length], Vec::new())
+}
+
+pub fn function_check(table: &[u8], shares: usize, masks: usize, function: usize) -> Reply {
+    let records = match tested(table, shares, masks) {
+        Ok(records) => records,
+        Err(number) => return Reply::refused(number),
+    };
+    if ![PRODUCT, SUM, COPY].contains(&function) {
+        return Reply::refused(20);
+    }
+    let yes = functions::computes(&records, shares, masks, function);
+    Reply::answered(&[u64::from(yes)], Vec::new())
+}
+
+/// `most` bounds the sets that are looked at; a refusal comes before any.
+pub fn verdict(
+    table: &[u8],
+    [shares, masks, notion, order, set_length]: [usize; 5],
+    most: u64,
+) -> Result<Reply, TooMany> {
+    let records = match tested(table, shares, masks) {
+        Ok(records) => records,
+        Err(number) => return Ok(Reply::refused(number)),
+    };
+    if notion != NI && notion != SNI {
+        return Ok(Reply::refused(14));
+    }
+    if order < 1 || order > shares - 1 {
+        return Ok(Reply::refused(15));
+    }
+    if set_length < order {
+        return Ok(Reply::refused(16));
+    }
+    SCOPE
+        .first(&records, notion, order, most)
+        .map(|found| found_by_verdict(found.map(|found| found.set)))
+}
+
+pub fn found_by_verdict(found: Option<Vec<u16>>) -> Reply {
+    match found {
+        None => Reply::answered(&[1], Vec::new()),
+        Some(set) => Reply::answered(&[0, set.len() as u64], set),
+    }
+}
+
+pub fn range_check(table: &[u8], [shares, masks, notion, size, set_length]: [usize; 5], [from, to]: [u64; 2]) -> Reply {
+    let records = match tested(table, shares, masks) {
+        Ok(records) => records,
+        Err(number) => return Reply::refused(number),
+    };
+    if notion != NI && notion != SNI {
+        return Reply::refused(14);
+    }
+    if size > MAX_SIZE {
+        return Reply::refused(17);
+    }
+    if set_length < size {
+        return Reply::refused(16);
+    }
+    if from > to || to > sets::count(records.len(), size) {
+        return Reply::refused(18);
+    }
+    match breaking::in_range(&records, size, notion, [from, to]) {
+        None => Reply::answered(&[1], Vec::new()),
+        Some(Found { rank, set }) => Reply::answered(&[0, size as u64, rank], set),
+    }
+}
+
+/// What the four entries that take a wire count test first: 12, then 17.
+fn counts_are_wrong(wires: usize, size: usize) -> Option<Reply> {
+    if wires > MAX_WIRES {
+        return Some(Reply::refused(12));
+    }
+    (size > MAX_SIZE).then(|| Reply::refused(17))
+}
+
+pub fn set_count(wires: usize, size: usize) -> Reply {
+    if let Some(refusal) = counts_are_wrong(wires, size) {
+        return refusal;
+    }
+    Reply::answered(&[sets::count(wires, size)], Vec::new())
+}
+
+pub fn set_from_rank(wires: usize, size: usize, rank: u64, set_length: usize) -> Reply {
+    if let Some(refusal) = counts_are_wrong(wires, size) {
+        return refusal;
+    }
+    if set_length < size {
+        return Reply::refused(16);
+    }
+    if rank >= sets::count(wires, size) {
+        return Reply::refused(18);
+    }
+    Reply::answered(&[], sets::from_rank(wires, size, rank))
+}
+
+pub fn rank_from_set(wires: usize, set: &[u16]) -> Reply {
+    if let Some(refusal) = counts_are_wrong(wires, set.len()) {
+        return refusal;
+    }
+    let rising = set.windows(2).all(|pair| pair[0] < pair[1]);
+    if !rising || set.iter().any(|wire| usize::from(*wire) >= wires) {
+        return Reply::refused(21);
+    }
+    Reply::answered(&[sets::rank(set)], Vec::new())
+}
+
+pub fn job(wires: usize, size: usize, job: u64, jobs: u64) -> Reply {
+    if let Some(refusal) = counts_are_wrong(wires, size) {
+        return refusal;
+    }
+    if jobs == 0 || jobs > MAX_JOBS || job >= jobs {
+        return Reply::refused(19);
+    }
+    Reply::answered(&sets::job(wires, size, job, jobs), Vec::new())
+}
+
+/// The reply to report_text, where the report is `report`.
+pub fn report_text(report: &str, buffer_length: usize) -> Reply {
+    if buffer_length < report.len() {
+        return Reply::refused(16);
+    }
+    Reply::answered(&[report.len() as u64], report.bytes().map(u16::from).collect())
+}

@@ -1,0 +1,39 @@
+//! The text of a report.
+
+use super::breaking::{TooMany, NI, SCOPE, SNI};
+use super::functions::{computes, COPY, PRODUCT, SUM};
+use super::reading::read;
+use super::records::MAX_TABLE_BYTES;
+
+/// The whole report, line ends included; `most` bounds the sets that either verdict looks at.
+pub fn report(text: &[u8], most: u64) -> Result<String, TooMany> {
+    let reading = match read(text, MAX_TABLE_BYTES) {
+        Ok(reading) => reading,
+        Err(fault) => {
+            return Ok(format!(
+                "refused {} at {}\n",
+                fault.cause.number_and_word().0,
+                fault.offset
+            ))
+        }
+    };
+    let (order, shares, masks) = (reading.order, reading.shares(), reading.masks);
+    let named = [(PRODUCT, "product"), (SUM, "sum"), (COPY, "copy")];
+    let computed = named
+        .iter()
+        .find(|(number, _)| computes(&reading.wires, shares, masks, *number));
+    let function = computed.map_or("other", |(_, name)| name);
+    let wires = reading.wires.len();
+    let mut report = format!("order {order} shares {shares} masks {masks} wires {wires}\nfunction {function}\n");
+    for (notion, name) in [(NI, "NI"), (SNI, "SNI")] {
+        let verdict = match SCOPE.first(&reading.wires, notion, order, most)? {
+            None => String::from(" holds"),
+            Some(found) => found
+                .set
+                .iter()
+                .fold(String::from(" broken"), |line, wire| format!("{line} {wire}")),
+        };
+        report += &format!("{name}{verdict}\n");
+    }
+    Ok(report)
+}

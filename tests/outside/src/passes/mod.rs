@@ -1,0 +1,42 @@
+//! The passes of a run. Each compares some entries with the model on inputs of its own, drawn from its own stream of
+//! random numbers, so that a change to one pass leaves the inputs of the others as they were.
+
+mod examples;
+mod guards;
+mod jobs;
+mod large;
+mod ranges;
+mod reports;
+mod sets;
+mod stack;
+mod texts;
+mod verdicts;
+mod watcher;
+
+use crate::faults;
+use crate::random::Random;
+use crate::tally::Tally;
+
+type Pass = fn(&mut Random, &mut Tally);
+
+const PASSES: [Pass; 11] = [
+    guards::run,
+    examples::run,
+    sets::run,
+    jobs::run,
+    verdicts::run,
+    ranges::run,
+    large::run,
+    texts::run,
+    reports::run,
+    watcher::run,
+    stack::run,
+];
+
+pub fn run_all(seed: u64, tally: &mut Tally) {
+    faults::name_all(tally);
+    let start = Random::new(seed).next();
+    for (number, pass) in PASSES.iter().enumerate() {
+        pass(&mut Random::new(start.wrapping_add(number as u64)), tally);
+    }
+}

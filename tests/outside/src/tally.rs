@@ -1,0 +1,137 @@
+//! The books of a run: what was compared and how often each answer came, what had to occur, which wrong models were
+//! noticed, and the differences.
+
+use crate::answers::{Answer, Entry, REQUIRED};
+use crate::reply::Reply;
+use std::collections::BTreeMap;
+
+const MOST_SHOWN: u64 = 10;
+
+#[derive(Default)]
+pub struct Tally {
+    answers: BTreeMap<(Entry, Answer), u64>,
+    occurrences: Vec<(&'static str, &'static str, u64)>,
+    noticed: Vec<(&'static str, u64)>,
+    lines: Vec<String>,
+    differences: u64,
+}
+
+impl Tally {
+    /// Compares the two replies to one input and counts the answer that the model gives. The word is that of an answer,
+    /// or of a refused text's cause.
+    pub fn compare(
+        &mut self,
+        entry: Entry,
+        word: &'static str,
+        model: &Reply,
+        engine: &Reply,
+        input: impl Fn() -> String,
+    ) {
+        let word = if model.status == 0 || entry == Entry::ReadText {
+            word
+        } else {
+            ""
+        };
+        *self.answers.entry((entry, (model.status, word))).or_default() += 1;
+        if model != engine {
+            self.differs(|| format!("{entry:?} {}\n    model:  {model}\n    engine: {engine}", input()));
+        }
+    }
+
+    /// Counts a difference, and shows it if it is among the first.
+    pub fn differs(&mut self, what: impl Fn() -> String) {
+        self.differences += 1;
+        if self.differences <= MOST_SHOWN {
+            println!("DIFFERENCE {}", what());
+        }
+    }
+
+    /// Names what the inputs have to bring about, before they come.
+    pub fn expect(&mut self, group: &'static str, kinds: &[&'static str]) {
+        self.occurrences.extend(kinds.iter().map(|kind| (group, *kind, 0)));
+    }
+
+    pub fn occurs(&mut self, group: &'static str, kind: &'static str) {
+        let known = self
+            .occurrences
+            .iter_mut()
+            .find(|known| (known.0, known.1) == (group, kind));
+        known.expect("what occurs is expected").2 += 1;
+    }
+
+    /// Names a wrong model that has to be noticed.
+    pub fn expect_fault(&mut self, name: &'static str) {
+        self.noticed.push((name, 0));
+    }
+
+    /// Counts an input on which a wrong model does not say what the engine says.
+    pub fn fault(&mut self, name: &'static str, differs: bool) {
+        let known = self.noticed.iter_mut().find(|known| known.0 == name);
+        known.expect("a fault is named first").1 += u64::from(differs);
+    }
+
+    pub fn say(&mut self, line: String) {
+        self.lines.push(line);
+    }
+
+    /// Prints the books; whether there is no difference, nothing that was not reached and no fault unnoticed.
+    pub fn print(&self) -> bool {
+        let mut missing = Vec::new();
+        for (entry, name, required) in REQUIRED {
+            self.print_entry(entry, name, required, &mut missing);
+        }
+        self.print_occurrences(&mut missing);
+        self.lines.iter().for_each(|line| println!("{line}"));
+        for (name, times) in &self.noticed {
+            println!("fault           {name}: noticed {times} times");
+            if *times == 0 {
+                missing.push(format!("fault unnoticed: {name}"));
+            }
+        }
+        missing.iter().for_each(|what| println!("NEVER REACHED {what}"));
+        if self.differences > 0 {
+            println!(
+                "differences     {}, of which at most {MOST_SHOWN} are shown above",
+                self.differences
+            );
+        }
+        self.differences == 0 && missing.is_empty()
+    }
+
+    fn print_entry(&self, entry: Entry, name: &str, required: &[Answer], missing: &mut Vec<String>) {
+        let all: u64 = self
+            .answers
+            .iter()
+            .filter(|((of, _), _)| *of == entry)
+            .map(|(_, times)| times)
+            .sum();
+        let (mut answers, mut refusals, mut said) = (Vec::new(), Vec::new(), 0);
+        for (status, word) in required {
+            let times = self.answers.get(&(entry, (*status, *word))).copied().unwrap_or(0);
+            said += times;
+            match (*status, *word) {
+                (0, word) => answers.push(format!("{word} {times}")),
+                (status, "") => refusals.push(format!("{status}: {times}")),
+                (status, word) => refusals.push(format!("{status} {word}: {times}")),
+            }
+            if times == 0 {
+                missing.push(format!("{name}: {status} {word}"));
+            }
+        }
+        assert_eq!(said, all, "an answer of {name} that the scope does not give it");
+        println!(
+            "{name:15} {all} compared: {}, refused {}",
+            answers.join(", "),
+            refusals.join(", ")
+        );
+    }
+
+    fn print_occurrences(&self, missing: &mut Vec<String>) {
+        for kinds in self.occurrences.chunk_by(|one, next| one.0 == next.0) {
+            let counts: Vec<String> = kinds.iter().map(|(_, kind, times)| format!("{kind} {times}")).collect();
+            println!("{:15} {}", kinds[0].0, counts.join(", "));
+            let never = kinds.iter().filter(|(_, _, times)| *times == 0);
+            missing.extend(never.map(|(group, kind, _)| format!("{group}: {kind}")));
+        }
+    }
+}
