@@ -2,12 +2,14 @@
 --     gave, refused              values and a refusal, where no buffer is lent
 --     lent-refused               a refusal where one is
 --     judged-refused             a refusal of a search
+--     kept-0, kept-none          status 0 is no refusal; a refusal that alters no number, where no buffer is lent
 use Prim.Native.Nat.{ℕ}
-use mathlib.Core.Path.{_≡_, _∙_, ap}
+use mathlib.Core.Path.{_≡_, refl, _∙_, ap}
 use mathlib.Core.List.{List, []}
 use Rattle.basics.specs.Told.{Told, Lent, values, refusal}
 use Rattle.verdict.specs.Answers.{written}
 use Rattle.abi.specs.Calls.{got, answered, lentAnswered, lentJudged}
+use Rattle.abi.specs.Meaning.{Kept}
 
 module _ (numbers : List ℕ) where
   pub gave : (told : Told) (l : List ℕ) → values l ≡ told → got 0 (written l numbers) [] ≡ answered told numbers []
@@ -22,3 +24,9 @@ module _ (numbers : List ℕ) where
 
     pub judged-refused : got status numbers held ≡ lentJudged lent numbers
     judged-refused = ap (λ (n : ℕ). got n numbers held) s ∙ ap (λ (a : Lent). lentJudged a numbers) e
+
+pub kept-0 : (numbers before held buffer : List ℕ) → Kept 0 numbers before held buffer
+kept-0 numbers before held buffer fails = absurd (fails refl)
+
+pub kept-none : (status : ℕ) (numbers buffer : List ℕ) → Kept status numbers numbers buffer buffer
+kept-none status numbers buffer fails = (refl, refl)

@@ -1,18 +1,23 @@
 -- Examples, proved by running the definitions: what calls return, and what the lent numbers, of which each was 7 or more before, and buffers then hold.
+--     statuses      for every answer: a refusal's number is the status, and no lent number is altered; status 0 else
 --     numbering     the entries on wire counts
+--     large         a count of more than 32 bits
 --     tables        the function check, verdicts and a range check on the tables of the scope's texts A, B and C
 --     texts         text A read, one of its parts, its report, and texts and buffers that are refused
 use Prim.Native.Nat.{ℕ}
-use mathlib.Core.Path.{_≡_, refl}
+use native.Mathlib.Omega.{arith}
+use mathlib.Core.Path.{_≡_, refl, ap}
 use mathlib.Core.Bool.{xor}
 use mathlib.Core.List.{List, [], _∷_, _++_}
-use lib.ListN.{take, drop, replicate}
+use lib.ListN.{length, take, drop, replicate}
 use Rattle.basics.specs.Folds.{upTo}
 use Rattle.basics.specs.Quoted.{bytes}
+use Rattle.basics.specs.Told.{values, refusal, turnedDown}
 use Rattle.wires.specs.Wires.{countA, masked, breaks, beyond}
 use Rattle.wires.specs.Function.{computes}
 use Rattle.records.specs.Words.{bit}
 use Rattle.counts.specs.Counts.{binom}
+use Rattle.counts.proofs.Rows.{binom-row}
 use Rattle.sets.specs.Order.{revolving}
 use Rattle.sets.specs.Answers.{setCount, setFromRank, rankFromSet, jobRanks}
 use Rattle.table.specs.Answers.{functionCheck}
@@ -22,10 +27,21 @@ use Rattle.verdict.specs.Answers.{verdictOf, rangeCheck}
 use Rattle.description.specs.Header.{orderLine, masksLine, namesFrom}
 use Rattle.description.specs.Listing.{encode}
 use Rattle.description.specs.Run.{run}
-use Rattle.reader.specs.Answers.{readText, partCheck}
+use Rattle.reader.specs.Answers.{refused, readText, partCheck}
 use Rattle.pages.specs.Decimal.{decimal}
 use Rattle.report_text.specs.Report.{functionLine, notionLine, checked, report, reportText}
-use Rattle.abi.specs.Calls.{Called, got, answered, lentAnswered, lentJudged, lentRead}
+use Rattle.abi.specs.Calls.{Called, got, answered, lentAnswered, lentJudged, readAnswered, lentRead}
+
+-- in general: what is told, whatever entry tells it
+pub statuses : ((number : ℕ) (numbers buffer : List ℕ) → answered (refusal number) numbers buffer ≡ got number numbers buffer)
+    × ((told numbers buffer : List ℕ) → answered (values told) numbers buffer ≡ got 0 (told ++ drop (length told) numbers) buffer)
+    × ((number : ℕ) (numbers buffer : List ℕ) → lentJudged (turnedDown number buffer) numbers ≡ got number numbers buffer)
+    × ((number place offset : ℕ) (numbers buffer : List ℕ) → readAnswered (refused number place) numbers offset buffer
+    ≡ got number (numbers ++ place ∷ []) buffer)
+statuses = (λ number numbers buffer. refl, λ told numbers buffer. refl, λ number numbers buffer. refl, λ number place offset numbers buffer. refl)
+
+pub large : answered (setCount 512 5) (7 ∷ []) [] ≡ got 0 (287515515392 ∷ []) []
+large = ap (λ (all : ℕ). got 0 (all ∷ []) []) (binom-row 512 5 (omega arith))
 
 pub numbering : (answered (setCount 24 2) (7 ∷ []) [] ≡ got 0 (276 ∷ []) [])
     × (answered (setCount 513 8) (7 ∷ []) [] ≡ got 12 (7 ∷ []) [])

@@ -1,13 +1,18 @@
--- What the numbers that a caller in C gets mean: each entry's own promise beside its equation, in these numbers.
+-- What the numbers that a caller in C gets mean: what each entry promises beside its equation, in these numbers.
+--     Kept              demand 1: with any other status than 0 nothing that is lent is altered
 --     YesOrNo           with status 0 a number is 1 or 0
+--     CountSays         how many sets there are
+--     SetSays           the set at the rank stands at the buffer's start, and what lies past it is as it was
+--     RankSays          at which rank the set stands
+--     JobSays           the ranks of the job
 --     FunctionSays      yes exactly when the outer wires' values always add up to the function
 --     VerdictSays       demand 3: holds exactly when every set to watch has a choice of shares; when not, the set shown has none
 --     VerdictShows      demand 2: which set is shown, and what the buffer then holds
 --     RangeShows        the same for a range of ranks
 --     ReadSays          a text is read exactly when it spells a description within the limits, into just that description's wires
 --     PartSays          the part lies within the text, and is the one that the engine returns
---     ReportFits        a report is never longer than so many bytes, and a buffer of as many is never refused
-use Prim.Native.Nat.{ℕ, _+_, _*_, _≤_, _<_}
+--     ReportSays        the report stands at the buffer's start; it is never longer than 512 bytes, and a buffer of as many is never refused
+use Prim.Native.Nat.{ℕ, suc, _+_, _*_, _≤_, _<_}
 use mathlib.Core.Path.{_≡_}
 use mathlib.Core.Logic.{_↔_, _⊎_}
 use mathlib.Core.Bool.{false}
@@ -16,7 +21,9 @@ use lib.ListN.{length, take, drop}
 use Rattle.basics.specs.Told.{values}
 use Rattle.wires.specs.Function.{AddUpTo}
 use Rattle.records.specs.Layout.{recordBytes, wireCount, wires}
-use Rattle.sets.specs.Order.{setAt}
+use Rattle.counts.specs.Counts.{binom}
+use Rattle.sets.specs.Order.{setAt, rankOf}
+use Rattle.sets.specs.Division.{start}
 use Rattle.table.specs.Answers.{tableCheck}
 use Rattle.verdict.specs.Answers.{notionOf}
 use Rattle.verdict.specs.Search.{isBreaking}
@@ -25,10 +32,32 @@ use Rattle.verdict.specs.First.{FirstBreaking, FirstInRange}
 use Rattle.description.specs.Grammar.{Description, Spells}
 use Rattle.reader.specs.Answers.{textPart}
 use Rattle.reader.specs.Reads.{Readable, Given}
-use Rattle.report_text.specs.Report.{maxReport}
+use Rattle.report_text.specs.Report.{report, maxReport}
+
+-- the lent numbers and the buffer, after the call and before it
+abbrev pub Kept : ℕ → List ℕ → List ℕ → List ℕ → List ℕ → Type 0
+Kept status numbers before held buffer = (status ≡ 0 → ⊥) → (numbers ≡ before) × (held ≡ buffer)
 
 abbrev pub YesOrNo : ℕ → ℕ → Type 0
 YesOrNo status number = status ≡ 0 → (number ≡ 1) ⊎ (number ≡ 0)
+
+-- ---- numbering
+
+abbrev pub CountSays : ℕ → ℕ → ℕ → ℕ → Type 0
+CountSays status sets wires size = status ≡ 0 → sets ≡ binom wires size
+
+abbrev pub SetSays : ℕ → ℕ → ℕ → ℕ → List ℕ → List ℕ → Type 0
+SetSays status wires size rank buffer held = status ≡ 0 → (take size held ≡ setAt wires size rank) × (drop size held ≡ drop size buffer)
+
+abbrev pub RankSays : ℕ → ℕ → ℕ → List ℕ → Type 0
+RankSays status rank wires set = status ≡ 0 → rank ≡ rankOf wires set
+
+-- floor(job × sets / jobs) and floor((job + 1) × sets / jobs)
+abbrev pub JobSays : ℕ → ℕ → ℕ → ℕ → ℕ → ℕ → ℕ → Type 0
+JobSays status from to wires size job jobs =
+    status ≡ 0 → (from ≡ start (binom wires size) jobs job) × (to ≡ start (binom wires size) jobs (suc job))
+
+-- ---- tables
 
 pub record FunctionSays (status yes : ℕ) (table : List ℕ) (shares masks function : ℕ) : Type 0 where
   pub either : YesOrNo status yes
@@ -46,7 +75,6 @@ pub record VerdictShows (status holds size : ℕ) (table : List ℕ) (shares mas
       → (held ≡ buffer) × ((u : List ℕ) → Watched table order u → isBreaking (notionOf notion) table shares masks u ≡ false)
   pub first : status ≡ 0 → holds ≡ 0
       → (drop size held ≡ drop size buffer) × FirstBreaking table shares masks notion order (take size held)
-  pub refused : (status ≡ 0 → ⊥) → held ≡ buffer
 
 pub record RangeShows (status clean found rank : ℕ) (table : List ℕ) (shares masks notion size from to : ℕ) (buffer held : List ℕ) : Type 0 where
   pub either : YesOrNo status clean
@@ -55,11 +83,14 @@ pub record RangeShows (status clean found rank : ℕ) (table : List ℕ) (shares
       × ((r : ℕ) → from ≤ r → r < to → isBreaking (notionOf notion) table shares masks (setAt (wireCount table) size r) ≡ false)
   pub first : status ≡ 0 → clean ≡ 0
       → (found ≡ size) × (drop size held ≡ drop size buffer) × FirstInRange table shares masks notion size from to (take size held) rank
-  pub refused : (status ≡ 0 → ⊥) → held ≡ buffer
 
-pub record ReadSays (status order shares masks wires : ℕ) (text : List ℕ) (room : ℕ) (held : List ℕ) : Type 0 where
-  pub read-exactly : (status ≡ 0) ↔ Readable text room
+-- ---- texts
+
+pub record ReadSays (status order shares masks wires : ℕ) (text table held : List ℕ) : Type 0 where
+  pub read-exactly : (status ≡ 0) ↔ Readable text (length table)
   pub read-gives : status ≡ 0 → (d : Description) → Spells text d → Given text d order shares masks wires held
+  -- nothing past the last record is written
+  pub past-kept : status ≡ 0 → drop (recordBytes * wires) held ≡ drop (recordBytes * wires) table
   -- the tests of every operation on a table accept it
   pub read-passes : status ≡ 0 → tableCheck (take (recordBytes * wires) held) shares masks ≡ values []
 
@@ -67,6 +98,7 @@ pub record PartSays (status offset size : ℕ) (text table : List ℕ) (wire : �
   pub inside : status ≡ 0 → offset + size ≤ length text
   pub part : status ≡ 0 → take size (drop offset text) ≡ textPart text table wire
 
-pub record ReportFits (status size room : ℕ) : Type 0 where
+pub record ReportSays (status size : ℕ) (text buffer held : List ℕ) : Type 0 where
+  pub written : status ≡ 0 → (take size held ≡ report text) × (drop size held ≡ drop size buffer)
   pub short : status ≡ 0 → size ≤ maxReport
-  pub enough : (status ≡ 0 → ⊥) → room < maxReport
+  pub enough : (status ≡ 0 → ⊥) → length buffer < maxReport

@@ -3,6 +3,7 @@ ghost use mathlib.Core.Path.{_≡_};
 ghost use mathlib.Core.List.{[], _∷_};
 ghost use Rattle.sets.specs.Answers.{setCount, setFromRank, rankFromSet, jobRanks};
 ghost use Rattle.abi.specs.Calls.{got, answered, lentAnswered};
+ghost use Rattle.abi.specs.Meaning.{Kept, CountSays, SetSays, RankSays, JobSays};
 use sets::CountAnswer;
 use sets::JobAnswer;
 use sets::RankAnswer;
@@ -12,6 +13,8 @@ use sets::SetAnswer;
 #[no_mangle]
 pub extern "C" fn calduvren_set_count(wires: usize, size: usize, sets: &mut u64) -> u64
     ensures { λ r. ⌜ got r (now (sets .exit) ∷ []) [] ≡ answered (setCount wires size) (now (sets .entry) ∷ []) [] ⌝ }
+    ensures { λ r. ⌜ Kept r (now (sets .exit) ∷ []) (now (sets .entry) ∷ []) [] [] ⌝ }
+    ensures { λ r. ⌜ CountSays r (now (sets .exit)) wires size ⌝ }
 {
     let answer = sets::set_count(wires, size);
     match answer {
@@ -32,6 +35,8 @@ pub extern "C" fn calduvren_set_from_rank(
     set: &mut [u16],
 ) -> u64
     ensures { λ r. ⌜ got r [] (now (set .exit)) ≡ lentAnswered (setFromRank wires size rank (now (set .entry))) [] ⌝ }
+    ensures { λ r. ⌜ Kept r [] [] (now (set .exit)) (now (set .entry)) ⌝ }
+    ensures { λ r. ⌜ SetSays r wires size rank (now (set .entry)) (now (set .exit)) ⌝ }
 {
     let answer = sets::set_from_rank(wires, size, rank, set);
     match answer {
@@ -44,6 +49,8 @@ pub extern "C" fn calduvren_set_from_rank(
 #[no_mangle]
 pub extern "C" fn calduvren_rank_from_set(wires: usize, set: &[u16], rank: &mut u64) -> u64
     ensures { λ r. ⌜ got r (now (rank .exit) ∷ []) [] ≡ answered (rankFromSet wires (now (set .entry))) (now (rank .entry) ∷ []) [] ⌝ }
+    ensures { λ r. ⌜ Kept r (now (rank .exit) ∷ []) (now (rank .entry) ∷ []) [] [] ⌝ }
+    ensures { λ r. ⌜ RankSays r (now (rank .exit)) wires (now (set .entry)) ⌝ }
 {
     let answer = sets::rank_from_set(wires, set);
     match answer {
@@ -66,6 +73,8 @@ pub extern "C" fn calduvren_job(
     to: &mut u64,
 ) -> u64
     ensures { λ r. ⌜ got r (now (from .exit) ∷ now (to .exit) ∷ []) [] ≡ answered (jobRanks wires size job jobs) (now (from .entry) ∷ now (to .entry) ∷ []) [] ⌝ }
+    ensures { λ r. ⌜ Kept r (now (from .exit) ∷ now (to .exit) ∷ []) (now (from .entry) ∷ now (to .entry) ∷ []) [] [] ⌝ }
+    ensures { λ r. ⌜ JobSays r (now (from .exit)) (now (to .exit)) wires size job jobs ⌝ }
 {
     let answer = sets::job(wires, size, job, jobs);
     match answer {

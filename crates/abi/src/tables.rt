@@ -4,7 +4,7 @@ ghost use mathlib.Core.List.{[], _∷_};
 ghost use Rattle.table.specs.Answers.{functionCheck};
 ghost use Rattle.verdict.specs.Answers.{verdictOf, rangeCheck};
 ghost use Rattle.abi.specs.Calls.{got, answered, lentJudged};
-ghost use Rattle.abi.specs.Meaning.{FunctionSays, VerdictSays, VerdictShows, RangeShows};
+ghost use Rattle.abi.specs.Meaning.{Kept, FunctionSays, VerdictSays, VerdictShows, RangeShows};
 use table::FunctionAnswer;
 use verdict::RangeAnswer;
 use verdict::VerdictAnswer;
@@ -19,6 +19,7 @@ pub extern "C" fn calduvren_function_check(
     yes: &mut u64,
 ) -> u64
     ensures { λ r. ⌜ got r (now (yes .exit) ∷ []) [] ≡ answered (functionCheck (now (table .entry)) shares masks function) (now (yes .entry) ∷ []) [] ⌝ }
+    ensures { λ r. ⌜ Kept r (now (yes .exit) ∷ []) (now (yes .entry) ∷ []) [] [] ⌝ }
     ensures { λ r. ⌜ FunctionSays r (now (yes .exit)) (now (table .entry)) shares masks function ⌝ }
 {
     let answer = table::function_check(table, shares, masks, function);
@@ -48,6 +49,7 @@ pub extern "C" fn calduvren_verdict(
     size: &mut usize,
 ) -> u64
     ensures { λ r. ⌜ got r (now (holds .exit) ∷ now (size .exit) ∷ []) (now (set .exit)) ≡ lentJudged (verdictOf (now (table .entry)) shares masks notion order (now (set .entry))) (now (holds .entry) ∷ now (size .entry) ∷ []) ⌝ }
+    ensures { λ r. ⌜ Kept r (now (holds .exit) ∷ now (size .exit) ∷ []) (now (holds .entry) ∷ now (size .entry) ∷ []) (now (set .exit)) (now (set .entry)) ⌝ }
     ensures { λ r. ⌜ VerdictShows r (now (holds .exit)) (now (size .exit)) (now (table .entry)) shares masks notion order (now (set .entry)) (now (set .exit)) ⌝ }
     ensures { λ r. ⌜ VerdictSays r (now (holds .exit)) (now (size .exit)) (now (table .entry)) shares masks notion order (now (set .exit)) ⌝ }
 {
@@ -82,6 +84,7 @@ pub extern "C" fn calduvren_range_check(
     rank: &mut u64,
 ) -> u64
     ensures { λ r. ⌜ got r (now (clean .exit) ∷ now (found .exit) ∷ now (rank .exit) ∷ []) (now (set .exit)) ≡ lentJudged (rangeCheck (now (table .entry)) shares masks notion size from to (now (set .entry))) (now (clean .entry) ∷ now (found .entry) ∷ now (rank .entry) ∷ []) ⌝ }
+    ensures { λ r. ⌜ Kept r (now (clean .exit) ∷ now (found .exit) ∷ now (rank .exit) ∷ []) (now (clean .entry) ∷ now (found .entry) ∷ now (rank .entry) ∷ []) (now (set .exit)) (now (set .entry)) ⌝ }
     ensures { λ r. ⌜ RangeShows r (now (clean .exit)) (now (found .exit)) (now (rank .exit)) (now (table .entry)) shares masks notion size from to (now (set .entry)) (now (set .exit)) ⌝ }
 {
     let answer = verdict::range_check(table, shares, masks, notion, size, from, to, set);

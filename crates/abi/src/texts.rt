@@ -1,11 +1,10 @@
 // Texts: reading, the text part of a wire, the report.
 ghost use mathlib.Core.Path.{_≡_};
 ghost use mathlib.Core.List.{[], _∷_};
-ghost use lib.ListN.{length};
 ghost use Rattle.reader.specs.Answers.{readText, partCheck};
 ghost use Rattle.report_text.specs.Report.{reportText};
 ghost use Rattle.abi.specs.Calls.{got, answered, lentAnswered, lentRead};
-ghost use Rattle.abi.specs.Meaning.{ReadSays, PartSays, ReportFits};
+ghost use Rattle.abi.specs.Meaning.{Kept, ReadSays, PartSays, ReportSays};
 use reader::PartAnswer;
 use reader::ReadAnswer;
 use report_text::ReportAnswer;
@@ -22,7 +21,8 @@ pub extern "C" fn calduvren_read_text(
     offset: &mut usize,
 ) -> u64
     ensures { λ r. ⌜ got r (now (order .exit) ∷ now (shares .exit) ∷ now (masks .exit) ∷ now (wires .exit) ∷ now (offset .exit) ∷ []) (now (table .exit)) ≡ lentRead (readText (now (text .entry)) (now (table .entry))) (now (order .entry) ∷ now (shares .entry) ∷ now (masks .entry) ∷ now (wires .entry) ∷ []) (now (offset .entry)) ⌝ }
-    ensures { λ r. ⌜ ReadSays r (now (order .exit)) (now (shares .exit)) (now (masks .exit)) (now (wires .exit)) (now (text .entry)) (length (now (table .entry))) (now (table .exit)) ⌝ }
+    ensures { λ r. ⌜ Kept r (now (order .exit) ∷ now (shares .exit) ∷ now (masks .exit) ∷ now (wires .exit) ∷ []) (now (order .entry) ∷ now (shares .entry) ∷ now (masks .entry) ∷ now (wires .entry) ∷ []) (now (table .exit)) (now (table .entry)) ⌝ }
+    ensures { λ r. ⌜ ReadSays r (now (order .exit)) (now (shares .exit)) (now (masks .exit)) (now (wires .exit)) (now (text .entry)) (now (table .entry)) (now (table .exit)) ⌝ }
 {
     let answer = reader::read_text(text, table);
     match answer {
@@ -52,20 +52,21 @@ pub extern "C" fn calduvren_text_part(
     table: &[u8],
     wire: usize,
     offset: &mut usize,
-    size: &mut usize,
+    length: &mut usize,
 ) -> u64
-    ensures { λ r. ⌜ got r (now (offset .exit) ∷ now (size .exit) ∷ []) [] ≡ answered (partCheck (now (text .entry)) (now (table .entry)) wire) (now (offset .entry) ∷ now (size .entry) ∷ []) [] ⌝ }
-    ensures { λ r. ⌜ PartSays r (now (offset .exit)) (now (size .exit)) (now (text .entry)) (now (table .entry)) wire ⌝ }
+    ensures { λ r. ⌜ got r (now (offset .exit) ∷ now (length .exit) ∷ []) [] ≡ answered (partCheck (now (text .entry)) (now (table .entry)) wire) (now (offset .entry) ∷ now (length .entry) ∷ []) [] ⌝ }
+    ensures { λ r. ⌜ Kept r (now (offset .exit) ∷ now (length .exit) ∷ []) (now (offset .entry) ∷ now (length .entry) ∷ []) [] [] ⌝ }
+    ensures { λ r. ⌜ PartSays r (now (offset .exit)) (now (length .exit)) (now (text .entry)) (now (table .entry)) wire ⌝ }
 {
     let answer = reader::text_part_check(text, table, wire);
     match answer {
         PartAnswer::Refused(why) => why.number(),
         PartAnswer::Part {
             offset: start,
-            length,
+            length: bytes,
         } => {
             *offset = start;
-            *size = length;
+            *length = bytes;
             0
         }
     }
@@ -73,15 +74,16 @@ pub extern "C" fn calduvren_text_part(
 
 // Writes the report on a text to the start of a buffer.
 #[no_mangle]
-pub extern "C" fn calduvren_report_text(text: &[u8], buffer: &mut [u8], size: &mut usize) -> u64
-    ensures { λ r. ⌜ got r (now (size .exit) ∷ []) (now (buffer .exit)) ≡ lentAnswered (reportText (now (text .entry)) (now (buffer .entry))) (now (size .entry) ∷ []) ⌝ }
-    ensures { λ r. ⌜ ReportFits r (now (size .exit)) (length (now (buffer .entry))) ⌝ }
+pub extern "C" fn calduvren_report_text(text: &[u8], buffer: &mut [u8], length: &mut usize) -> u64
+    ensures { λ r. ⌜ got r (now (length .exit) ∷ []) (now (buffer .exit)) ≡ lentAnswered (reportText (now (text .entry)) (now (buffer .entry))) (now (length .entry) ∷ []) ⌝ }
+    ensures { λ r. ⌜ Kept r (now (length .exit) ∷ []) (now (length .entry) ∷ []) (now (buffer .exit)) (now (buffer .entry)) ⌝ }
+    ensures { λ r. ⌜ ReportSays r (now (length .exit)) (now (text .entry)) (now (buffer .entry)) (now (buffer .exit)) ⌝ }
 {
     let answer = report_text::report(text, buffer);
     match answer {
         ReportAnswer::Refused(why) => why.number(),
-        ReportAnswer::Written { length: bytes } => {
-            *size = bytes;
+        ReportAnswer::Written { length: size } => {
+            *length = size;
             0
         }
     }

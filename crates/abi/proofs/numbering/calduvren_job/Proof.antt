@@ -1,9 +1,7 @@
--- `abi::numbering::calduvren_job` meets its contract: it tells what the entry tells.
+-- `abi::numbering::calduvren_job` meets its contract: each answer tells its number or its values, which mean what the answer means.
 -- Assumes nothing.
-use mathlib.Core.Path.{sym, _∙_, ap}
 use borrow.Author.Needs.{needs}
-use Rattle.sets.specs.Answers.{jobTold}
-use Rattle.abi.proofs.Answering.{gave, refused}
+use Rattle.abi.proofs.Ranking.{job-gave, job-refused}
 use Rattle.abi.proofs.numbering.calduvren_job.Statement.{statement}
 use Rattle.abi.proofs.numbering.calduvren_job.Tie as tie
 
@@ -20,10 +18,12 @@ enum-known-answer-2 : tie.Need-enum-known-answer-2
 enum-known-answer-2 c = search needs
 
 returns : tie.Need-returns
-returns c = refused _ _ _ _ (ap jobTold (sym (c .before .before .answer .given .1)) ∙ c .before .before .before .before .job .ensures) (c .number .ensures)
+returns c =
+    job-refused _ _ _ _ _ (c .before .before .before .before .job .ensures) _ _ _ _ (c .before .before .answer .given .1) (c .number .ensures)
 
 returns-2 : tie.Need-returns-2
-returns-2 c = gave _ _ _ (ap jobTold (sym (c .before .answer2 .given .1)) ∙ c .before .before .before .job .ensures)
+returns-2 c =
+    job-gave _ _ _ _ _ (c .before .before .before .job .ensures) _ _ _ _ (c .before .answer2 .given .1)
 
 pub calduvren-job-spec : {M : Type 1} → statement M
 calduvren-job-spec =

@@ -1,9 +1,7 @@
--- `abi::numbering::calduvren_set_count` meets its contract: it tells what the entry tells.
+-- `abi::numbering::calduvren_set_count` meets its contract: each answer tells its number or its values, which mean what the answer means.
 -- Assumes nothing.
-use mathlib.Core.Path.{sym, _∙_, ap}
 use borrow.Author.Needs.{needs}
-use Rattle.sets.specs.Answers.{countTold}
-use Rattle.abi.proofs.Answering.{gave, refused}
+use Rattle.abi.proofs.Ranking.{count-gave, count-refused}
 use Rattle.abi.proofs.numbering.calduvren_set_count.Statement.{statement}
 use Rattle.abi.proofs.numbering.calduvren_set_count.Tie as tie
 
@@ -20,10 +18,12 @@ enum-known-answer-2 : tie.Need-enum-known-answer-2
 enum-known-answer-2 c = search needs
 
 returns : tie.Need-returns
-returns c = refused _ _ _ _ (ap countTold (sym (c .before .before .answer .given .1)) ∙ c .before .before .before .before .set-count .ensures) (c .number .ensures)
+returns c =
+    count-refused _ _ _ (c .before .before .before .before .set-count .ensures) _ _ _ (c .before .before .answer .given .1) (c .number .ensures)
 
 returns-2 : tie.Need-returns-2
-returns-2 c = gave _ _ _ (ap countTold (sym (c .before .answer2 .given .1)) ∙ c .before .before .before .set-count .ensures)
+returns-2 c =
+    count-gave _ _ _ (c .before .before .before .set-count .ensures) _ _ (c .before .answer2 .given .1)
 
 pub calduvren-set-count-spec : {M : Type 1} → statement M
 calduvren-set-count-spec =

@@ -1,4 +1,4 @@
--- `abi::numbering::calduvren_set_from_rank` meets its contract: it tells what the entry tells.
+-- `abi::numbering::calduvren_set_from_rank` meets its contract: each answer tells its number or its values, which mean what the answer means.
 -- Assumes nothing.
 use borrow.Author.Needs.{needs}
 use Rattle.abi.proofs.Ranking.{set-gave, set-refused}
@@ -22,14 +22,14 @@ same-length c = search needs
 
 returns : tie.Need-returns
 returns c =
-    set-refused _ _ _ (c .before .before .before .before .before .before .set-from-rank .ensures) _ _ (c .before .before .answer .given .1) (c .number .ensures)
+    set-refused _ _ _ _ _ _ (c .before .before .before .before .before .before .set-from-rank .ensures) _ _ (c .before .before .answer .given .1) (c .number .ensures)
 
 same-length-2 : tie.Need-same-length-2
 same-length-2 c = search needs
 
 returns-2 : tie.Need-returns-2
 returns-2 c =
-    set-gave _ _ _ (c .before .before .before .before .set-from-rank .ensures) (c .enum-told .given .1)
+    set-gave _ _ _ _ _ _ (c .before .before .before .before .set-from-rank .ensures) (c .enum-told .given .1)
 
 pub calduvren-set-from-rank-spec : {M : Type 1} → statement M
 calduvren-set-from-rank-spec =

@@ -22,14 +22,14 @@ same-length c = search needs
 
 returns : tie.Need-returns
 returns c =
-    let e = c .before .before .before .before .before .before .report .ensures in let a = c .before .before .before .before .before .before .before .before .before .before .args in report-refused (a .text .now) (a .buffer .now) _ _ (e .0) (e .1) (a .size .now) _ _ (c .before .before .answer .given .1) (c .number .ensures)
+    let e = c .before .before .before .before .before .before .report .ensures in let a = c .before .before .before .before .before .before .before .before .before .before .args in report-refused (a .text .now) (a .buffer .now) _ _ (e .0) (e .1) (a .length .now) _ _ (c .before .before .answer .given .1) (c .number .ensures)
 
 same-length-2 : tie.Need-same-length-2
 same-length-2 c = search needs
 
 returns-2 : tie.Need-returns-2
 returns-2 c =
-    let e = c .before .before .before .before .before .report .ensures in let a = c .before .before .before .before .before .before .before .before .before .args in report-gave (a .text .now) (a .buffer .now) _ _ (e .0) (e .1) (a .size .now) _ (c .before .answer2 .given .1)
+    let e = c .before .before .before .before .before .report .ensures in let a = c .before .before .before .before .before .before .before .before .before .args in report-gave (a .text .now) (a .buffer .now) _ _ (e .0) (e .1) (a .length .now) _ (c .before .answer2 .given .1)
 
 pub calduvren-report-text-spec : {M : Type 1} → statement M
 calduvren-report-text-spec =
