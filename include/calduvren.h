@@ -1,10 +1,19 @@
 /*
- * Calduvren: a probing verifier for masked gadgets over bits, for callers in C and C++.
+ * Calduvren: a probing verifier for masked gadgets over bits, for callers in C and C++ on x86-64 Linux. To be linked
+ * with libabi.a, which `rt staticlib abi` writes and which needs nothing but the C library.
  *
  * A gadget computes on two operands, a and b, each a secret bit split into shares, and adds random bits, the masks.
  * A watcher reads a few of its wires. The functions below read a gadget's description into a table of its wires, check
  * its function, say whether it is NI and SNI at an order and show the first breaking set, number the sets of wires and
  * divide the search over machines.
+ *
+ * Breaking sets
+ *
+ * A set of distinct wires breaks NI when the sum of their records, bit by bit without carry, has no mask and depends on
+ * more shares of a, or on more shares of b, than the set has wires. For SNI only its inner wires count. A table is NI,
+ * or SNI, at order t exactly when no set of 1 to t wires breaks the notion: so says calduvren_verdict, and so do range
+ * checks that are clean for EVERY size from 1 to t over ALL ranks of that size. A range, or a size, by itself says
+ * nothing of an order.
  *
  * What every function does
  *
@@ -13,9 +22,12 @@
  *   listed in the order in which they are tested, and nothing else is refused.
  * - With status 0 it writes its answer through the pointers. A number that is named below as written is written, and
  *   no other is touched; of a lent buffer nothing is touched past what is written.
- * - Every number may have any value and every buffer any contents. A call always returns.
+ * - Every number may have any value and every buffer any contents. A call always returns, but nothing interrupts it: a
+ *   verdict, a range check and a report take some 100 nanoseconds for each set that they look at, and a verdict or a
+ *   report that finds no breaking set looks at every set of up to as many wires as the order (of 512 wires, years at
+ *   order 7). calduvren_set_count tells beforehand how many these are, and calduvren_job divides them for range checks.
  * - `yes`, `holds` and `clean` are 1 where the answer is good and 0 where it is not: a caller that sets them to 0
- *   beforehand takes no refusal for a good answer.
+ *   beforehand takes no refusal for a good answer. A table of length 0 is a table of no wires, and holds.
  *
  * What a caller owes
  *
@@ -61,16 +73,27 @@ extern "C" {
 typedef uint64_t calduvren_status;
 
 /*
- * Reads a description text into the table of its wires, a record of 24 bytes for each:
+ * Reads a description text into the table of its wires. A text has at most 4,096 bytes, in lines that end in byte 10
+ * (the last may lack it). An example, the multiplication of Ishai, Sahai and Wagner at order 1:
+ *   ORDER = 1             one digit, 1 to 7; there are order + 1 shares of each operand, numbered from 0
+ *   MASKS = [r0]          nothing, or names parted by a comma and a space: r0 to r63 without leading zeros, none twice
+ *   s00 r0                then order + 1 output lines; lines of spaces only, or empty, are skipped
+ *   s11 ((r0 s01) s10)
+ * An output line is a group: items side by side are added, left to right. An item is a symbol or a group in
+ * parentheses, nested at most 16 deep. `s01` is the product of share 0 of a and share 1 of b, `a0` and `b0` are shares,
+ * `r0` is a mask.
+ *
+ * A table has a record of 24 bytes for each wire:
  *   bytes 0 to 7    products, bit 8i + j for share i of a and share j of b     (all numbers little-endian)
  *   bytes 8 to 15   masks, bit k for mask k
  *   byte 16, 17     shares of a, shares of b, bit i for share i
  *   byte 18         0 inner, 1 outer
  *   byte 19         number of the output line from 0; 0 for an inner wire
  *   bytes 20, 21    offset in the text of the part that computes the wire; bytes 22, 23 its length
+ * Tables may also come from a caller's own tools. Only calduvren_text_part looks at bytes 20 to 23, and nothing at 19.
  *
- * Written with status 0: order, shares (of each operand), masks (how many) and wires, and the first 24 * wires bytes of
- * table. A table of CALDUVREN_MAX_TABLE_BYTES is always long enough.
+ * Written with status 0: order, shares (of each operand), masks (the mask count: the highest number + 1, or 0) and
+ * wires, and the first 24 * wires bytes of table. A table of CALDUVREN_MAX_TABLE_BYTES is always long enough.
  * Written with any other status: offset, the place in the text.
  *
  * Refusals, that at the lowest offset, and at one offset the first of:
@@ -80,8 +103,8 @@ typedef uint64_t calduvren_status;
  *   9   a line too many (its first byte that is no space)
  *   8   a parenthesis opened when sixteen are open
  *   7   a bar
- *   4   no such symbol, or a share beyond the order (its start)
- *   5   a mask that is not declared (its start)
+ *   4   no such symbol, a mask name out of form too (as r64 or r01), or a share beyond the order (its start)
+ *   5   a well-formed mask that is not declared (its start)
  *   6   a closing parenthesis with none open or nothing inside; at a line's end, one still open
  *   9   lines too few (the text's length)
  *   10  over 512 wires, or table too short (the text's length)
@@ -90,7 +113,8 @@ calduvren_status calduvren_read_text(const uint8_t *text, size_t text_length, ui
                                      size_t *order, size_t *shares, size_t *masks, size_t *wires, size_t *offset);
 
 /*
- * Where the part of the text that computes a wire stands: text[offset] up to, without, text[offset + length].
+ * Where the part of the text that computes a wire stands: text[offset] up to, without, text[offset + length]. It goes
+ * by the wire's record alone, so the table has to be the one that was read from this text.
  *
  * Written: offset and length; offset + length is at most text_length.
  *
@@ -118,9 +142,9 @@ calduvren_status calduvren_function_check(const uint8_t *table, size_t table_len
                                           size_t function, uint64_t *yes);
 
 /*
- * Whether a table is CALDUVREN_NI or CALDUVREN_SNI at an order: whether for every set of at most that many wires, shares
- * of a and of b can be chosen, of each no more than the set has wires (for SNI, inner wires), so that inputs that agree
- * on them give every pattern on the set's wires from equally many mask settings.
+ * Whether a table is CALDUVREN_NI or CALDUVREN_SNI at an order: whether for every set of at most that many wires,
+ * shares of a and of b can be chosen, of each no more than the set has wires (for SNI, inner wires), so that inputs that
+ * agree on them give every pattern on the set's wires from equally many mask settings.
  *
  * Written: holds, 1 or 0. Where it is 0 also size, and the wire numbers of the first breaking set in rising size and
  * rank, rising, in the first `size` elements of set. No such choice can be made for that set.
@@ -138,7 +162,8 @@ calduvren_status calduvren_verdict(const uint8_t *table, size_t table_length, si
                                    uint64_t *holds, size_t *size);
 
 /*
- * Whether no set of `size` wires at the ranks from `from` up to, without, `to` breaks the notion.
+ * Whether no set of `size` wires at the ranks from `from` up to, without, `to` breaks the notion. An order takes every
+ * size from 1 up to it, each over all its ranks; calduvren_job divides the ranks of a size.
  *
  * Written: clean, 1 or 0. Where it is 0 also found (the set's size, which is `size`), rank, and the wire numbers of the
  * set at the first such rank, rising, in the first `size` elements of set.
@@ -154,7 +179,8 @@ calduvren_status calduvren_verdict(const uint8_t *table, size_t table_length, si
  */
 calduvren_status calduvren_range_check(const uint8_t *table, size_t table_length, size_t shares, size_t masks,
                                        size_t notion, size_t size, uint64_t from, uint64_t to,
-                                       uint16_t *set, size_t set_length, uint64_t *clean, size_t *found, uint64_t *rank);
+                                       uint16_t *set, size_t set_length,
+                                       uint64_t *clean, size_t *found, uint64_t *rank);
 
 /*
  * How many sets of `size` out of `wires` wires there are.
@@ -168,7 +194,9 @@ calduvren_status calduvren_range_check(const uint8_t *table, size_t table_length
 calduvren_status calduvren_set_count(size_t wires, size_t size, uint64_t *sets);
 
 /*
- * The set at a rank, in revolving-door order; ranks start at 0.
+ * The set at a rank; ranks start at 0. The order of the sets of k out of n wires is the revolving door: first those
+ * without wire n - 1 in their order, then those with it, in the reverse order of their other k - 1 wires. For k = 2:
+ * {0,1}, {1,2}, {0,2}, {2,3}, {1,3}, {0,3}.
  *
  * Written: the set's wire numbers, rising, in the first `size` elements of set.
  *
@@ -206,8 +234,8 @@ calduvren_status calduvren_rank_from_set(size_t wires, const uint16_t *set, size
 calduvren_status calduvren_job(size_t wires, size_t size, uint64_t job, uint64_t jobs, uint64_t *from, uint64_t *to);
 
 /*
- * The report on a description text: what was read, its function and both verdicts at its order, or its refusal, in lines
- * that end in byte 10.
+ * The report on a description text: what was read, its function and both verdicts at its order, in lines that end in
+ * byte 10. A text that calduvren_read_text turns down has a report too, with status 0: one line, as `refused 7 at 31`.
  *
  * Written: length, and the report's bytes in the first `length` bytes of buffer. No byte 0 follows them. A buffer of
  * CALDUVREN_MAX_REPORT_BYTES is always long enough.

@@ -65,7 +65,7 @@ int main(int argument_count, char **arguments)
         print_verdict(&g, "NI", CALDUVREN_NI);
         print_verdict(&g, "SNI", CALDUVREN_SNI);
     }
-    if (fflush(stdout) != 0) { /* a verdict that did not get out was not given */
+    if (fflush(stdout) != 0 || ferror(stdout)) { /* a verdict that did not get out was not given */
         perror("verdicts");
         return 2;
     }

@@ -1,7 +1,8 @@
 /*
  * Calls every function of include/calduvren.h through its declaration and compares with what the scope says: accepted
- * inputs, its starred examples among them, and refusals, each with one argument alone out of range, so that arguments
- * in the wrong place do not pass. All that is lent to a call is compared after it, also what it must not touch.
+ * inputs, its starred examples among them, and refusals, each with one argument alone out of range, so that a
+ * declaration with its arguments in another order than the library's does not pass. (Their names are compared by
+ * tests/outside.) All that is lent to a call is compared after it, also what it must not touch.
  *
  * build: gcc -std=c11 -Wall -Wextra -pedantic -Werror -I include tests/header/header.c target/staticlib/libabi.a
  *            -o target/header
@@ -203,8 +204,11 @@ static void numbering(void)
 {
     static const uint16_t pair[] = {1, 2};
     static const uint16_t eight[] = {0, 1, 2, 3, 4, 5, 6, 7};
+    static const uint16_t seven[] = {0, 4, 5, 6, 7, 8, 511}; /* at a rank of 51 bits */
     wanted.sets = 2829877120;
     COMPARE(calduvren_set_count(CALDUVREN_MAX_WIRES, 4, &lent.sets), 0);
+    wanted.sets = 287515515392; /* more than 32 bits */
+    COMPARE(calduvren_set_count(CALDUVREN_MAX_WIRES, 5, &lent.sets), 0);
     wanted.sets = 276;
     COMPARE(calduvren_set_count(24, 2, &lent.sets), 0);
     COMPARE(calduvren_set_count(CALDUVREN_MAX_WIRES + 1, 4, &lent.sets), 12);
@@ -215,6 +219,10 @@ static void numbering(void)
     COMPARE(calduvren_set_from_rank(24, CALDUVREN_MAX_SIZE + 1, 1, lent.set, CALDUVREN_MAX_SIZE + 1), 17);
     COMPARE(calduvren_set_from_rank(24, 2, 1, lent.set, 1), 16);
     COMPARE(calduvren_set_from_rank(24, 2, 276, lent.set, 2), 18);
+    memcpy(wanted.set, seven, sizeof seven);
+    COMPARE(calduvren_set_from_rank(CALDUVREN_MAX_WIRES, 7, 1756185841659339, lent.set, 7), 0);
+    wanted.rank = 1756185841659339;
+    COMPARE(calduvren_rank_from_set(CALDUVREN_MAX_WIRES, seven, 7, &lent.rank), 0);
     wanted.rank = 1;
     COMPARE(calduvren_rank_from_set(24, pair, 2, &lent.rank), 0);
     COMPARE(calduvren_rank_from_set(CALDUVREN_MAX_WIRES + 1, pair, 2, &lent.rank), 12);
@@ -230,6 +238,10 @@ static void job(void)
     wanted.from = 353734640;
     wanted.to = 530601960;
     COMPARE(calduvren_job(CALDUVREN_MAX_WIRES, 4, 2, 16, &lent.from, &lent.to), 0);
+    wanted.from = 1756159044390079; /* the last of as many jobs as there may be, over 1756185841659392 sets */
+    wanted.to = 1756185841659392;
+    COMPARE(calduvren_job(CALDUVREN_MAX_WIRES, CALDUVREN_MAX_SIZE, CALDUVREN_MAX_JOBS - 1, CALDUVREN_MAX_JOBS,
+                          &lent.from, &lent.to), 0);
     wanted.from = wanted.to = 0; /* of 276 pairs the first of so many jobs has none */
     COMPARE(calduvren_job(24, 2, 0, CALDUVREN_MAX_JOBS, &lent.from, &lent.to), 0);
     COMPARE(calduvren_job(CALDUVREN_MAX_WIRES + 1, 2, 3, 7, &lent.from, &lent.to), 12);

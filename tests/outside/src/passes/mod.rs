@@ -3,6 +3,7 @@
 
 mod examples;
 mod guards;
+mod header;
 mod jobs;
 mod large;
 mod ranges;
@@ -19,7 +20,7 @@ use crate::tally::Tally;
 
 type Pass = fn(&mut Random, &mut Tally);
 
-const PASSES: [Pass; 11] = [
+const PASSES: [Pass; 12] = [
     guards::run,
     examples::run,
     sets::run,
@@ -31,6 +32,7 @@ const PASSES: [Pass; 11] = [
     reports::run,
     watcher::run,
     stack::run,
+    header::run,
 ];
 
 pub fn run_all(seed: u64, tally: &mut Tally) {

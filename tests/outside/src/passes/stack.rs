@@ -15,8 +15,8 @@ use crate::reply::Reply;
 use crate::tally::Tally;
 use std::thread::Builder;
 
-const STACK_BYTES: usize = 262_144;
-const REPORT_BYTES: usize = 512;
+pub const STACK_BYTES: usize = 262_144;
+pub const REPORT_BYTES: usize = 512;
 
 /// A call to the engine, and what the model says to it.
 struct Call {

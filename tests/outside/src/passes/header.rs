@@ -1,0 +1,110 @@
+//! The header against the crate and the model: a C compiler holds the order and the types of the arguments to the
+//! library, but no compiler their names, and a caller goes by the names. Each declaration of the header has to be that
+//! of the exported function, and each constant what the model goes by. Read from the repository's root.
+
+use super::stack::{REPORT_BYTES, STACK_BYTES};
+use crate::model::breaking::{NI, SNI};
+use crate::model::functions::{COPY, PRODUCT, SUM};
+use crate::model::reading::MAX_TEXT_BYTES;
+use crate::model::records::{MAX_MASKS, MAX_SHARES, MAX_TABLE_BYTES, MAX_WIRES, RECORD_BYTES};
+use crate::model::sets::{MAX_JOBS, MAX_SIZE};
+use crate::random::Random;
+use crate::tally::Tally;
+use std::collections::BTreeMap;
+use std::fs::read_to_string;
+
+const HEADER: &str = "include/calduvren.h";
+const CRATE_FILES: [&str; 3] = [
+    "crates/abi/src/numbering.rt",
+    "crates/abi/src/tables.rt",
+    "crates/abi/src/texts.rt",
+];
+const FUNCTIONS: usize = 10;
+
+/// A function's arguments as C declares them.
+type Declarations = BTreeMap<String, Vec<String>>;
+
+const CONSTANTS: [(&str, usize); 16] = [
+    ("CALDUVREN_MAX_TEXT_BYTES", MAX_TEXT_BYTES),
+    ("CALDUVREN_RECORD_BYTES", RECORD_BYTES),
+    ("CALDUVREN_MAX_WIRES", MAX_WIRES),
+    ("CALDUVREN_MAX_TABLE_BYTES", MAX_TABLE_BYTES),
+    ("CALDUVREN_MAX_SHARES", MAX_SHARES),
+    ("CALDUVREN_MAX_MASKS", MAX_MASKS),
+    ("CALDUVREN_MAX_ORDER", MAX_SHARES - 1),
+    ("CALDUVREN_MAX_SIZE", MAX_SIZE),
+    ("CALDUVREN_MAX_JOBS", MAX_JOBS as usize),
+    ("CALDUVREN_MAX_REPORT_BYTES", REPORT_BYTES),
+    ("CALDUVREN_STACK_BYTES", STACK_BYTES),
+    ("CALDUVREN_NI", NI),
+    ("CALDUVREN_SNI", SNI),
+    ("CALDUVREN_PRODUCT", PRODUCT),
+    ("CALDUVREN_SUM", SUM),
+    ("CALDUVREN_COPY", COPY),
+];
+
+pub fn run(_: &mut Random, tally: &mut Tally) {
+    let read = |path: &str| read_to_string(path).unwrap_or_else(|why| panic!("{path} can be read: {why}"));
+    let header = without_comments(&read(HEADER));
+    let in_header = declared(&header, "calduvren_status ", |argument| vec![spaced(argument)]);
+    let sources: String = CRATE_FILES.map(read).concat();
+    let in_crate = declared(&sources, "pub extern \"C\" fn ", in_c);
+    if in_header != in_crate || in_crate.len() != FUNCTIONS {
+        tally.differs(|| format!("the header declares {in_header:#?}, and the crate exports {in_crate:#?}"));
+    }
+    let constants: Vec<(&str, usize)> = header.lines().filter_map(constant).collect();
+    if constants != CONSTANTS {
+        tally.differs(|| format!("the header has {constants:?}, and the model {CONSTANTS:?}"));
+    }
+    let (functions, constants) = (in_header.len(), constants.len());
+    tally.say(format!(
+        "header          {functions} functions declared as they are exported, {constants} constants as in the model"
+    ));
+}
+
+fn without_comments(text: &str) -> String {
+    let after_comment = |part: &str| {
+        part.split_once("*/")
+            .map_or(String::new(), |(_, rest)| rest.to_string())
+    };
+    let mut parts = text.split("/*");
+    let first = parts.next().unwrap_or("").to_string();
+    parts.fold(first, |text, part| text + &after_comment(part))
+}
+
+/// What follows each `word` up to the closing parenthesis: a name, and arguments parted by commas.
+fn declared(text: &str, word: &str, in_c: fn(&str) -> Vec<String>) -> Declarations {
+    let functions = text.split(word).skip(1).filter_map(|part| {
+        let (head, _) = part.split_once(')')?;
+        let (name, arguments) = head.split_once('(')?;
+        let arguments = arguments.split(',').filter(|argument| !argument.trim().is_empty());
+        Some((name.to_string(), arguments.flat_map(in_c).collect()))
+    });
+    functions.collect()
+}
+
+fn spaced(argument: &str) -> String {
+    argument.split_whitespace().collect::<Vec<&str>>().join(" ")
+}
+
+/// An argument of an exported function as C sees it: a slice is a pointer and then a length.
+fn in_c(argument: &str) -> Vec<String> {
+    let (name, kind) = argument.trim().split_once(": ").expect("an argument has a type");
+    let slice = |element: &str| vec![format!("{element} *{name}"), format!("size_t {name}_length")];
+    match kind {
+        "usize" => vec![format!("size_t {name}")],
+        "u64" => vec![format!("uint64_t {name}")],
+        "&mut usize" => vec![format!("size_t *{name}")],
+        "&mut u64" => vec![format!("uint64_t *{name}")],
+        "&[u8]" => slice("const uint8_t"),
+        "&mut [u8]" => slice("uint8_t"),
+        "&[u16]" => slice("const uint16_t"),
+        "&mut [u16]" => slice("uint16_t"),
+        other => vec![format!("{other} {name}")],
+    }
+}
+
+fn constant(line: &str) -> Option<(&str, usize)> {
+    let (name, value) = line.strip_prefix("#define ")?.split_once(' ')?;
+    Some((name, value.parse().ok()?))
+}
