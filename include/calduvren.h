@@ -9,17 +9,22 @@
  *
  * Breaking sets
  *
- * A set of distinct wires breaks NI when the sum of their records, bit by bit without carry, has no mask and depends on
- * more shares of a, or on more shares of b, than the set has wires. For SNI only its inner wires count. A table is NI,
- * or SNI, at order t exactly when no set of 1 to t wires breaks the notion: so says calduvren_verdict, and so do range
- * checks that are clean for EVERY size from 1 to t over ALL ranks of that size. A range, or a size, by itself says
- * nothing of an order.
+ * A set of distinct wires, inner or outer, breaks NI when the sum of their records, bit by bit without carry, has no
+ * mask and depends on more shares of a, or on more shares of b, than the set has wires. For SNI the number to exceed is
+ * that of its inner wires; the outer ones are in the sum all the same. The sum depends on share i of a when a product
+ * bit with that i, or the single bit of that share, is set; on share j of b likewise.
+ *
+ * A table is NI, or SNI, at an order from 1 to shares - 1 exactly when no set of 1 to that many wires breaks the notion.
+ * So says calduvren_verdict, and so do range checks that are clean for EVERY size from 1 to the order over ALL ranks of
+ * that size. A set that is found breaks its own size and every order from there on; a clean range, or a clean size
+ * above 1, by itself says nothing of an order.
  *
  * What every function does
  *
  * - It returns a status: 0, or the number of the refusal. A refusal alters no lent memory; the one exception is the
  *   `offset` of calduvren_read_text, which says where in the text the refusal is. The refusals of each function are
- *   listed in the order in which they are tested, and nothing else is refused.
+ *   listed in the order in which they are tested (those of a text come by their offset first), and nothing else is
+ *   refused.
  * - With status 0 it writes its answer through the pointers. A number that is named below as written is written, and
  *   no other is touched; of a lent buffer nothing is touched past what is written.
  * - Every number may have any value and every buffer any contents. A call always returns, but nothing interrupts it: a
@@ -81,7 +86,7 @@ typedef uint64_t calduvren_status;
  *   s11 ((r0 s01) s10)
  * An output line is a group: items side by side are added, left to right. An item is a symbol or a group in
  * parentheses, nested at most 16 deep. `s01` is the product of share 0 of a and share 1 of b, `a0` and `b0` are shares,
- * `r0` is a mask.
+ * `r0` is a mask; a symbol is the longest run of bytes without space, parenthesis, bar or line end.
  *
  * A table has a record of 24 bytes for each wire:
  *   bytes 0 to 7    products, bit 8i + j for share i of a and share j of b     (all numbers little-endian)
@@ -90,7 +95,13 @@ typedef uint64_t calduvren_status;
  *   byte 18         0 inner, 1 outer
  *   byte 19         number of the output line from 0; 0 for an inner wire
  *   bytes 20, 21    offset in the text of the part that computes the wire; bytes 22, 23 its length
- * Tables may also come from a caller's own tools. Only calduvren_text_part looks at bytes 20 to 23, and nothing at 19.
+ * The wires are listed in the order in which they are worked out, items left to right, an item before the addition that
+ * takes it. A symbol's first use makes an inner wire, later uses none. Each addition makes a wire: the last of a line is
+ * outer, the others are inner. A line of one symbol gets an outer wire of its own.
+ *
+ * Tables may also come from a caller's own tools. A verdict is about the wires that are listed and no others: a table
+ * that leaves out the sums on the way may hold where its gadget does not. Only calduvren_text_part looks at bytes 20 to
+ * 23, and nothing at 19.
  *
  * Written with status 0: order, shares (of each operand), masks (the mask count: the highest number + 1, or 0) and
  * wires, and the first 24 * wires bytes of table. A table of CALDUVREN_MAX_TABLE_BYTES is always long enough.
@@ -183,7 +194,7 @@ calduvren_status calduvren_range_check(const uint8_t *table, size_t table_length
                                        uint64_t *clean, size_t *found, uint64_t *rank);
 
 /*
- * How many sets of `size` out of `wires` wires there are.
+ * How many sets of `size` out of `wires` wires there are; 0 where the size is above the wires.
  *
  * Written: sets.
  *
@@ -235,7 +246,8 @@ calduvren_status calduvren_job(size_t wires, size_t size, uint64_t job, uint64_t
 
 /*
  * The report on a description text: what was read, its function and both verdicts at its order, in lines that end in
- * byte 10. A text that calduvren_read_text turns down has a report too, with status 0: one line, as `refused 7 at 31`.
+ * byte 10. A text that calduvren_read_text turns down, a table of CALDUVREN_MAX_TABLE_BYTES lent, has a report too, with
+ * status 0: one line, as `refused 7 at 31`.
  *
  * Written: length, and the report's bytes in the first `length` bytes of buffer. No byte 0 follows them. A buffer of
  * CALDUVREN_MAX_REPORT_BYTES is always long enough.

@@ -2,7 +2,7 @@
  * Calls every function of include/calduvren.h through its declaration and compares with what the scope says: accepted
  * inputs, its starred examples among them, and refusals, each with one argument alone out of range, so that a
  * declaration with its arguments in another order than the library's does not pass. (Their names are compared by
- * tests/outside.) All that is lent to a call is compared after it, also what it must not touch.
+ * tests/outside.) All that is lent to be written is compared after each call, also what the call must not touch.
  *
  * build: gcc -std=c11 -Wall -Wextra -pedantic -Werror -I include tests/header/header.c target/staticlib/libabi.a
  *            -o target/header

@@ -1,6 +1,6 @@
 -- What the proofs of the exported functions use.
 --     Answering   what is told of an answer, put into a status and the lent numbers
---     Ranking     the paths of set from rank
+--     Ranking     the paths of the functions on wire counts
 --     Judging     the paths of the operations on a table
 --     Reading     the paths of the operations on a text
 --     Samples     examples, proved by running the definitions

@@ -1,5 +1,5 @@
 -- Examples, proved by running the definitions: what calls return, and what the lent numbers, of which each was 7 or more before, and buffers then hold.
---     statuses      for every answer: a refusal's number is the status, and no lent number is altered; status 0 else
+--     statuses      what every answer and every refusal makes of status, numbers and buffer
 --     numbering     the entries on wire counts
 --     large         a count of more than 32 bits
 --     tables        the function check, verdicts and a range check on the tables of the scope's texts A, B and C
@@ -27,18 +27,38 @@ use Rattle.verdict.specs.Answers.{verdictOf, rangeCheck}
 use Rattle.description.specs.Header.{orderLine, masksLine, namesFrom}
 use Rattle.description.specs.Listing.{encode}
 use Rattle.description.specs.Run.{run}
-use Rattle.reader.specs.Answers.{refused, readText, partCheck}
+use Rattle.reader.specs.Answers.{gives, refused, readText, partCheck}
 use Rattle.pages.specs.Decimal.{decimal}
 use Rattle.report_text.specs.Report.{functionLine, notionLine, checked, report, reportText}
-use Rattle.abi.specs.Calls.{Called, got, answered, lentAnswered, lentJudged, readAnswered, lentRead}
+use Rattle.abi.specs.Calls.{Called, got, answered, lentAnswered, lentJudged, lentRead}
 
--- in general: what is told, whatever entry tells it
+-- in general: whatever an entry tells, a refusal's number is the status, and then no number but reading's offset is altered; else the status is 0,
+-- the values stand in the first of the numbers, and the others are as they were
 pub statuses : ((number : ℕ) (numbers buffer : List ℕ) → answered (refusal number) numbers buffer ≡ got number numbers buffer)
     × ((told numbers buffer : List ℕ) → answered (values told) numbers buffer ≡ got 0 (told ++ drop (length told) numbers) buffer)
+    × ((number : ℕ) (numbers buffer : List ℕ) → lentAnswered (turnedDown number buffer) numbers ≡ got number numbers buffer)
+    × ((told numbers buffer : List ℕ) → lentAnswered (record { told = values told; held = buffer }) numbers
+    ≡ got 0 (told ++ drop (length told) numbers) buffer)
     × ((number : ℕ) (numbers buffer : List ℕ) → lentJudged (turnedDown number buffer) numbers ≡ got number numbers buffer)
-    × ((number place offset : ℕ) (numbers buffer : List ℕ) → readAnswered (refused number place) numbers offset buffer
+    × ((good : ℕ) (others buffer : List ℕ) → lentJudged (record { told = values []; held = buffer }) (good ∷ others) ≡ got 0 (1 ∷ others) buffer)
+    × ((size : ℕ) (more numbers buffer : List ℕ) → lentJudged (record { told = values (size ∷ more); held = buffer }) numbers
+    ≡ got 0 ((0 ∷ size ∷ more) ++ drop (length (0 ∷ size ∷ more)) numbers) buffer)
+    × ((number place offset : ℕ) (numbers buffer : List ℕ) → lentRead (record { told = refused number place; held = buffer }) numbers offset
     ≡ got number (numbers ++ place ∷ []) buffer)
-statuses = (λ number numbers buffer. refl, λ told numbers buffer. refl, λ number numbers buffer. refl, λ number place offset numbers buffer. refl)
+    × ((order shares masks wires offset : ℕ) (numbers buffer : List ℕ)
+    → lentRead (record { told = gives order shares masks wires; held = buffer }) numbers offset
+    ≡ got 0 (order ∷ shares ∷ masks ∷ wires ∷ offset ∷ []) buffer)
+statuses = (
+  λ number numbers buffer. refl,
+  λ told numbers buffer. refl,
+  λ number numbers buffer. refl,
+  λ told numbers buffer. refl,
+  λ number numbers buffer. refl,
+  λ good others buffer. refl,
+  λ size more numbers buffer. refl,
+  λ number place offset numbers buffer. refl,
+  λ order shares masks wires offset numbers buffer. refl,
+)
 
 pub large : answered (setCount 512 5) (7 ∷ []) [] ≡ got 0 (287515515392 ∷ []) []
 large = ap (λ (all : ℕ). got 0 (all ∷ []) []) (binom-row 512 5 (omega arith))

@@ -114,6 +114,11 @@ fn exchange_symbols(random: &mut Random, gadget: &mut Description) {
     let lines = gadget.lines.join(" ");
     let symbols: Vec<&str> = lines.split([' ', '(', ')']).filter(|word| !word.is_empty()).collect();
     let (old, new) = (random.pick(&symbols), random.pick(&symbols));
-    let line = random.below(gadget.lines.len());
-    gadget.lines[line] = gadget.lines[line].replacen(old, new, 1);
+    let number = random.below(gadget.lines.len());
+    let line = &mut gadget.lines[number];
+    // A whole symbol: r1 is not the start of r12.
+    let whole = |at: &usize| !line[at + old.len()..].starts_with(|next: char| next.is_ascii_digit());
+    if let Some(at) = line.match_indices(old).map(|(at, _)| at).find(whole) {
+        line.replace_range(at..at + old.len(), new);
+    }
 }

@@ -1,6 +1,6 @@
-//! The header against the crate and the model: a C compiler holds the order and the types of the arguments to the
-//! library, but no compiler their names, and a caller goes by the names. Each declaration of the header has to be that
-//! of the exported function, and each constant what the model goes by. Read from the repository's root.
+//! The header against the crate and the model: the calls of tests/header hold the order and the types of the arguments
+//! to the library, but nothing their names, and a caller goes by the names. Each declaration of the header has to be
+//! that of the exported function, and each constant what the model goes by. Read from the repository's root.
 
 use super::stack::{REPORT_BYTES, STACK_BYTES};
 use crate::model::breaking::{NI, SNI};

@@ -18,9 +18,11 @@ const TABLES: usize = 30_000;
 const MOST_SETS: u64 = 4_000;
 const GADGETS: usize = 100;
 const MOST_SETS_OF_GADGETS: u64 = 100_000;
+const LARGE_GADGETS: usize = 300;
 
 const HOLDS: &str = "holds";
 const SIZES: [&str; 7] = ["broken by 1 wire", "by 2", "by 3", "by 4", "by 5", "by 6", "by 7"];
+const YES: [&str; 7] = ["yes of 2 shares", "3", "4", "5", "6", "7", "8"];
 const NI_ONLY: &str = "NI holds and SNI is broken";
 const OUTER_WIRE: &str = "SNI is broken by a set with an outer wire";
 const CANCELLED: &str = "products cancel in the set shown";
@@ -31,6 +33,7 @@ pub fn run(random: &mut Random, tally: &mut Tally) {
         tally.expect(notion, &SIZES);
     }
     tally.expect("  both", &[NI_ONLY, OUTER_WIRE, CANCELLED]);
+    tally.expect("  function", &YES);
     for _ in 0..TABLES {
         let table = any_table(random);
         sound_call(random, tally, &table, MOST_SETS);
@@ -39,6 +42,12 @@ pub fn run(random: &mut Random, tally: &mut Tally) {
     for _ in 0..GADGETS {
         let table = gadget(random, 4);
         sound_call(random, tally, &table, MOST_SETS_OF_GADGETS);
+    }
+    // Of up to eight shares, whose verdicts would take too long.
+    for _ in 0..LARGE_GADGETS {
+        let table = gadget(random, MAX_SHARES - 1);
+        let call = TableCall::new(random, &table);
+        (1..=3).for_each(|function| ask_function(tally, &call, function));
     }
 }
 
@@ -110,6 +119,9 @@ fn ask_function(tally: &mut Tally, call: &TableCall, function: usize) {
         (Some(1), _) => "yes copy",
         _ => "no",
     };
+    if model.numbers[0] == Some(1) {
+        tally.occurs("  function", YES[call.shares - 2]);
+    }
     let input = || format!("function {function} {}", call.show());
     tally.compare(Entry::FunctionCheck, word, &model, &reply, input);
 }
