@@ -16,8 +16,8 @@
  *
  * A table is NI, or SNI, at an order from 1 to shares - 1 exactly when no set of 1 to that many wires breaks the notion.
  * So says calduvren_verdict, and so do range checks that are clean for EVERY size from 1 to the order over ALL ranks of
- * that size. A set that is found breaks its own size and every order from there on; a clean range, or a clean size
- * above 1, by itself says nothing of an order.
+ * that size. A set that is found breaks every order from its size on; a clean range, or a clean size above 1, by itself
+ * says nothing of an order.
  *
  * What every function does
  *
