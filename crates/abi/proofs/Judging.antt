@@ -5,7 +5,7 @@
 use Prim.Native.Nat.{ℕ, _<_}
 use native.Mathlib.Omega.{arith}
 use mathlib.Core.Path.{_≡_, refl, sym, _∙_, ap}
-use mathlib.Core.Logic.{_⊎_, inl, inr}
+use mathlib.Core.Logic.{inl, inr}
 use mathlib.Core.List.{List, [], _∷_}
 use Rattle.basics.specs.Told.{Lent}
 use Rattle.table.specs.declared.FunctionAnswer.{FunctionAnswer}
@@ -17,9 +17,9 @@ use Rattle.verdict.specs.declared.Refusal.{Refusal}
 use Rattle.verdict.specs.Answers.{refusalNumber, verdictTold, rangeTold, verdictOf, rangeCheck}
 use Rattle.verdict.specs.Guarantee.{Guarantee}
 use Rattle.verdict.specs.First.{VerdictFinds, RangeFinds}
-use Rattle.abi.specs.Calls.{got, answered, lentJudged}
+use Rattle.abi.specs.Calls.{got, lentJudged}
 use Rattle.abi.specs.Meaning.{Kept, FunctionSays, VerdictSays, VerdictShows, RangeShows}
-use Rattle.abi.proofs.Answering.{gave, refused, judged-refused, kept-0, kept-none}
+use Rattle.abi.proofs.Answering.{Numbers, numbers-gave, numbers-refused, judged-refused, kept-0}
 
 -- a refusal's number is not 0, so status 0 is no refusal
 table-positive : (why : table-refusal.Refusal) → 0 < table-answers.refusalNumber why
@@ -39,33 +39,27 @@ verdict-positive Refusal.RanksOutOfRange = omega arith
 module _ (table : List ℕ) (shares masks function : ℕ) where
   abbrev FunctionPromise : ℕ → ℕ → ℕ → Type 0
   FunctionPromise status bit before =
-      (got status (bit ∷ []) [] ≡ answered (table-answers.functionCheck table shares masks function) (before ∷ []) [])
-      × (Kept status (bit ∷ []) (before ∷ []) [] [] × FunctionSays status bit table shares masks function)
+      Numbers (table-answers.functionCheck table shares masks function) (FunctionSays status bit table shares masks function) status (bit ∷ [])
+      (before ∷ [])
 
   module _ (answer : FunctionAnswer) (told : table-answers.functionTold answer ≡ table-answers.functionCheck table shares masks function)
       (means : table-answers.FunctionMeans answer table shares masks function) (before : ℕ) where
     pub function-yes : answer ≡ FunctionAnswer.Yes → FunctionPromise 0 1 before
-    function-yes e = (
-      gave _ _ _ (ap table-answers.functionTold (sym e) ∙ told),
-      (kept-0 _ _ _ _, record { either = λ zero. inl refl; yes-exactly = λ zero. (λ one. means .yes-means e, λ adds. refl) }),
-    )
+    function-yes e =
+        numbers-gave _ _ _ _ (ap table-answers.functionTold (sym e) ∙ told)
+        (record { either = λ zero. inl refl; yes-exactly = λ zero. (λ one. means .yes-means e, λ adds. refl) })
 
     pub function-no : answer ≡ FunctionAnswer.No → FunctionPromise 0 0 before
-    function-no e = (
-      gave _ _ _ (ap table-answers.functionTold (sym e) ∙ told),
-      (
-        kept-0 _ _ _ _,
-        record { either = λ zero. inr refl; yes-exactly = λ zero. (λ one. absurd (omega (arith, one)), λ adds. absurd (means .no-means e adds)) },
-      ),
-    )
+    function-no e =
+        numbers-gave _ _ _ _ (ap table-answers.functionTold (sym e) ∙ told)
+        (record { either = λ zero. inr refl; yes-exactly = λ zero. (λ one. absurd (omega (arith, one)), λ adds. absurd (means .no-means e adds)) })
 
     pub function-refused : (why : table-refusal.Refusal) (status : ℕ) → answer ≡ FunctionAnswer.Refused why → status ≡ table-answers.refusalNumber why
         → FunctionPromise status before before
     function-refused why status e s =
-        let positive = table-positive why in (
-          refused _ _ _ _ (ap table-answers.functionTold (sym e) ∙ told) s,
-          (kept-none _ _ _, record { either = λ zero. absurd (omega arith); yes-exactly = λ zero. absurd (omega arith) }),
-        )
+        let positive = table-positive why in
+        numbers-refused _ _ _ _ _ (ap table-answers.functionTold (sym e) ∙ told) s
+        (record { either = λ zero. absurd (omega arith); yes-exactly = λ zero. absurd (omega arith) })
 
 -- ---- the verdict
 

@@ -4,7 +4,7 @@
 --     set-gave, set-refused
 --     rank-gave, rank-refused
 --     job-gave, job-refused
-use Prim.Native.Nat.{ℕ, suc, _≤_, _<_}
+use Prim.Native.Nat.{ℕ, suc, _<_}
 use native.Mathlib.Omega.{arith}
 use mathlib.Core.Path.{_≡_, refl, sym, _∙_, ap}
 use mathlib.Core.Bool.{Bool, cond, not, _&&_, _||_}
@@ -27,9 +27,9 @@ use Rattle.sets.proofs.Rising.{isSet-parts}
 use Rattle.sets.proofs.Revolving.{set-at-is-set}
 use Rattle.verdict.specs.Answers.{written}
 use Rattle.verdict.proofs.Accepting.{written-front, written-rest}
-use Rattle.abi.specs.Calls.{got, answered, lentAnswered}
+use Rattle.abi.specs.Calls.{got, lentAnswered}
 use Rattle.abi.specs.Meaning.{Kept, CountSays, SetSays, RankSays, JobSays}
-use Rattle.abi.proofs.Answering.{gave, refused, lent-refused, kept-0, kept-none}
+use Rattle.abi.proofs.Answering.{Numbers, numbers-gave, numbers-refused, lent-refused, kept-0}
 
 pub sets-positive : (why : Refusal) → 0 < refusalNumber why
 sets-positive Refusal.TooManyWires = omega arith
@@ -38,6 +38,9 @@ sets-positive Refusal.BufferTooShort = omega arith
 sets-positive Refusal.RankTooLarge = omega arith
 sets-positive Refusal.NoSuchJob = omega arith
 sets-positive Refusal.NotASet = omega arith
+
+not-0 : {A : Type 0} (why : Refusal) (status : ℕ) → status ≡ refusalNumber why → status ≡ 0 → A
+not-0 why status s zero = absurd (omega (arith, sets-positive why))
 
 -- where values are told, a test of a chain passed, and the rest tells them
 passes : (b : Bool) (k : ℕ) (rest : Told) (l : List ℕ) → cond b (refusal k) rest ≡ values l → rest ≡ values l
@@ -51,67 +54,45 @@ module _ (wires size : ℕ) where
   within : (rest : Told) (l : List ℕ) → cond (ltb maxWires wires) (refusal 12) (sized rest) ≡ values l → rest ≡ values l
   within rest l e = passes (ltb maxSize size) 17 rest l (passes (ltb maxWires wires) 12 (sized rest) l e)
 
-  abbrev CountPromise : ℕ → ℕ → ℕ → Type 0
-  CountPromise status sets before =
-      (got status (sets ∷ []) [] ≡ answered (setCount wires size) (before ∷ []) [])
-      × (Kept status (sets ∷ []) (before ∷ []) [] [] × CountSays status sets wires size)
-
   module _ (answer : CountAnswer) (told : countTold answer ≡ setCount wires size) (before : ℕ) where
-    pub count-gave : (sets : ℕ) → answer ≡ CountAnswer.Sets sets → CountPromise 0 sets before
+    pub count-gave : (sets : ℕ) → answer ≡ CountAnswer.Sets sets
+        → Numbers (setCount wires size) (CountSays 0 sets wires size) 0 (sets ∷ []) (before ∷ [])
     count-gave sets e =
         let tells = ap countTold (sym e) ∙ told in
         let same = within (values (binom wires size ∷ [])) (sets ∷ []) (sym tells) in
-        (gave _ _ _ tells, (kept-0 _ _ _ _, λ zero. cc))
+        numbers-gave _ _ _ _ tells (λ zero. cc)
 
     pub count-refused : (why : Refusal) (status : ℕ) → answer ≡ CountAnswer.Refused why → status ≡ refusalNumber why
-        → CountPromise status before before
-    count-refused why status e s = (
-      refused _ _ _ _ (ap countTold (sym e) ∙ told) s,
-      (kept-none _ _ _, λ zero. absurd (omega (arith, sets-positive why))),
-    )
+        → Numbers (setCount wires size) (CountSays status before wires size) status (before ∷ []) (before ∷ [])
+    count-refused why status e s = numbers-refused _ _ _ _ _ (ap countTold (sym e) ∙ told) s (λ zero. not-0 why status s zero)
 
-  module _ (job jobs : ℕ) where
-    abbrev JobPromise : ℕ → ℕ → ℕ → ℕ → ℕ → Type 0
-    JobPromise status from to from-before to-before =
-        (got status (from ∷ to ∷ []) [] ≡ answered (jobRanks wires size job jobs) (from-before ∷ to-before ∷ []) [])
-        × (Kept status (from ∷ to ∷ []) (from-before ∷ to-before ∷ []) [] [] × JobSays status from to wires size job jobs)
+  module _ (job jobs : ℕ) (answer : JobAnswer) (told : jobTold answer ≡ jobRanks wires size job jobs) (from-before to-before : ℕ) where
+    pub job-gave : (from to : ℕ) → answer ≡ JobAnswer.Ranks from to
+        → Numbers (jobRanks wires size job jobs) (JobSays 0 from to wires size job jobs) 0 (from ∷ to ∷ []) (from-before ∷ to-before ∷ [])
+    job-gave from to e =
+        let tells = ap jobTold (sym e) ∙ told in
+        let ranks = values (start (binom wires size) jobs job ∷ start (binom wires size) jobs (suc job) ∷ []) in
+        let wrong = eqb jobs 0 || ltb maxJobs jobs || leb jobs job in
+        let same = passes wrong 19 ranks (from ∷ to ∷ []) (within (cond wrong (refusal 19) ranks) (from ∷ to ∷ []) (sym tells)) in
+        numbers-gave _ _ _ _ tells (λ zero. (cc, cc))
 
-    module _ (answer : JobAnswer) (told : jobTold answer ≡ jobRanks wires size job jobs) (from-before to-before : ℕ) where
-      pub job-gave : (from to : ℕ) → answer ≡ JobAnswer.Ranks from to → JobPromise 0 from to from-before to-before
-      job-gave from to e =
-          let tells = ap jobTold (sym e) ∙ told in
-          let ranks = values (start (binom wires size) jobs job ∷ start (binom wires size) jobs (suc job) ∷ []) in
-          let wrong = eqb jobs 0 || ltb maxJobs jobs || leb jobs job in
-          let same = passes wrong 19 ranks (from ∷ to ∷ []) (within (cond wrong (refusal 19) ranks) (from ∷ to ∷ []) (sym tells)) in
-          (gave _ _ _ tells, (kept-0 _ _ _ _, λ zero. (cc, cc)))
+    pub job-refused : (why : Refusal) (status : ℕ) → answer ≡ JobAnswer.Refused why → status ≡ refusalNumber why
+        → Numbers (jobRanks wires size job jobs) (JobSays status from-before to-before wires size job jobs) status (from-before ∷ to-before ∷ [])
+        (from-before ∷ to-before ∷ [])
+    job-refused why status e s = numbers-refused _ _ _ _ _ (ap jobTold (sym e) ∙ told) s (λ zero. not-0 why status s zero)
 
-      pub job-refused : (why : Refusal) (status : ℕ) → answer ≡ JobAnswer.Refused why → status ≡ refusalNumber why
-          → JobPromise status from-before to-before from-before to-before
-      job-refused why status e s = (
-        refused _ _ _ _ (ap jobTold (sym e) ∙ told) s,
-        (kept-none _ _ _, λ zero. absurd (omega (arith, sets-positive why))),
-      )
+module _ (wires : ℕ) (set : List ℕ) (answer : RankAnswer) (told : rankTold answer ≡ rankFromSet wires set) (before : ℕ) where
+  pub rank-gave : (rank : ℕ) → answer ≡ RankAnswer.Rank rank → Numbers (rankFromSet wires set) (RankSays 0 rank wires set) 0 (rank ∷ []) (before ∷ [])
+  rank-gave rank e =
+      let tells = ap rankTold (sym e) ∙ told in
+      let wrong = not (rising set && below wires set) in
+      let place = values (rankOf wires set ∷ []) in
+      let same = passes wrong 21 place (rank ∷ []) (within wires (length set) (cond wrong (refusal 21) place) (rank ∷ []) (sym tells)) in
+      numbers-gave _ _ _ _ tells (λ zero. cc)
 
-module _ (wires : ℕ) (set : List ℕ) where
-  abbrev RankPromise : ℕ → ℕ → ℕ → Type 0
-  RankPromise status rank before =
-      (got status (rank ∷ []) [] ≡ answered (rankFromSet wires set) (before ∷ []) [])
-      × (Kept status (rank ∷ []) (before ∷ []) [] [] × RankSays status rank wires set)
-
-  module _ (answer : RankAnswer) (told : rankTold answer ≡ rankFromSet wires set) (before : ℕ) where
-    pub rank-gave : (rank : ℕ) → answer ≡ RankAnswer.Rank rank → RankPromise 0 rank before
-    rank-gave rank e =
-        let tells = ap rankTold (sym e) ∙ told in
-        let wrong = not (rising set && below wires set) in
-        let place = values (rankOf wires set ∷ []) in
-        let same = passes wrong 21 place (rank ∷ []) (within wires (length set) (cond wrong (refusal 21) place) (rank ∷ []) (sym tells)) in
-        (gave _ _ _ tells, (kept-0 _ _ _ _, λ zero. cc))
-
-    pub rank-refused : (why : Refusal) (status : ℕ) → answer ≡ RankAnswer.Refused why → status ≡ refusalNumber why → RankPromise status before before
-    rank-refused why status e s = (
-      refused _ _ _ _ (ap rankTold (sym e) ∙ told) s,
-      (kept-none _ _ _, λ zero. absurd (omega (arith, sets-positive why))),
-    )
+  pub rank-refused : (why : Refusal) (status : ℕ) → answer ≡ RankAnswer.Refused why → status ≡ refusalNumber why
+      → Numbers (rankFromSet wires set) (RankSays status before wires set) status (before ∷ []) (before ∷ [])
+  rank-refused why status e s = numbers-refused _ _ _ _ _ (ap rankTold (sym e) ∙ told) s (λ zero. not-0 why status s zero)
 
 -- ---- set from rank
 
@@ -171,6 +152,6 @@ module _ (wires size rank : ℕ) (buffer held : List ℕ) where
           lent-refused [] lent _ status held tells s,
           (
             λ no. (refl, kept (refusalNumber why) (ap (λ (a : Lent). a .told) tells) (ap (λ (a : Lent). a .held) tells)),
-            λ zero. absurd (omega (arith, sets-positive why)),
+            λ zero. not-0 why status s zero,
           ),
         )

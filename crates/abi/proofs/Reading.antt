@@ -3,7 +3,7 @@
 --     read-gave, read-refused
 --     part-gave, part-refused
 --     report-gave, report-refused
-use Prim.Native.Nat.{ℕ, _+_, _*_, _≤_, _<_}
+use Prim.Native.Nat.{ℕ, _+_, _*_, _<_}
 use native.Mathlib.Omega.{arith}
 use mathlib.Core.Path.{_≡_, refl, sym, _∙_, ap, ap₂}
 use mathlib.Core.Bool.{Bool, true, false, cond}
@@ -11,7 +11,6 @@ use mathlib.Core.List.{List, [], _∷_, _++_}
 use lib.ListN.{length, take, drop}
 use lib.Seq.{drop-append-seam}
 use lib.Dec.{ltb}
-use borrow.Author.Tests.{ltb-false}
 use Rattle.basics.specs.Told.{Lent, values, refusal, turnedDown}
 use Rattle.basics.proofs.Telling.{test-passed, test-kept, values-refusal}
 use Rattle.records.specs.Layout.{recordBytes}
@@ -29,12 +28,11 @@ use Rattle.reader.proofs.Parts.{part-exactly, part-told}
 use Rattle.report_text.specs.declared.ReportAnswer.{ReportAnswer}
 use Rattle.report_text.specs.declared.Refusal as report-refusal
 use Rattle.report_text.specs.Report as report
-use Rattle.abi.specs.Calls.{got, answered, lentAnswered, lentRead}
+use Rattle.abi.specs.Calls.{got, lentAnswered, lentRead}
 use Rattle.abi.specs.Meaning.{Kept, ReadSays, PartSays, ReportSays}
 use Rattle.verdict.specs.Answers.{written}
 use Rattle.verdict.proofs.Accepting.{written-front, written-rest}
-use Rattle.abi.proofs.Answering as answering
-use Rattle.abi.proofs.Answering.{gave, lent-refused, kept-0, kept-none}
+use Rattle.abi.proofs.Answering.{Numbers, numbers-gave, numbers-refused, lent-refused, kept-0}
 
 -- a refusal's number is not 0, so status 0 is no refusal
 read-positive : (why : Refusal) → 0 < refusalNumber why
@@ -147,31 +145,24 @@ module _ (text table held : List ℕ) where
 
 module _ (text table : List ℕ) (wire : ℕ) where
   abbrev PartPromise : ℕ → ℕ → ℕ → List ℕ → Type 0
-  PartPromise status offset size before =
-      (got status (offset ∷ size ∷ []) [] ≡ answered (partCheck text table wire) before [])
-      × (Kept status (offset ∷ size ∷ []) before [] [] × PartSays status offset size text table wire)
+  PartPromise status offset size before = Numbers (partCheck text table wire) (PartSays status offset size text table wire) status (offset ∷ size ∷ []) before
 
   module _ (answer : PartAnswer) (told : partTold answer ≡ partCheck text table wire) (offset-before size-before : ℕ) where
     pub part-gave : (offset size : ℕ) → answer ≡ PartAnswer.Part offset size → PartPromise 0 offset size (offset-before ∷ size-before ∷ [])
     part-gave offset size e =
-        let tells = ap partTold (sym e) ∙ told in (
-          gave _ _ _ tells,
-          (
-            kept-0 _ _ _ _,
-            record {
-              inside = λ zero. part-exactly text table wire offset size .0 (sym tells) .inside;
-              part = λ zero. sym (part-told text table wire .1 offset size (sym tells));
-            },
-          ),
-        )
+        let tells = ap partTold (sym e) ∙ told in
+        numbers-gave _ _ _ _ tells
+        (record {
+          inside = λ zero. part-exactly text table wire offset size .0 (sym tells) .inside;
+          part = λ zero. sym (part-told text table wire .1 offset size (sym tells));
+        })
 
     pub part-refused : (why : PartRefusal) (status : ℕ) → answer ≡ PartAnswer.Refused why → status ≡ partRefusalNumber why
         → PartPromise status offset-before size-before (offset-before ∷ size-before ∷ [])
     part-refused why status e s =
-        let positive = part-positive why in (
-          answering.refused _ _ _ _ (ap partTold (sym e) ∙ told) s,
-          (kept-none _ _ _, record { inside = λ zero. absurd (omega arith); part = λ zero. absurd (omega arith) }),
-        )
+        let positive = part-positive why in
+        numbers-refused _ _ _ _ _ (ap partTold (sym e) ∙ told) s
+        (record { inside = λ zero. absurd (omega arith); part = λ zero. absurd (omega arith) })
 
 -- ---- the report
 
