@@ -1,6 +1,6 @@
 /*
  * Calduvren: a probing verifier for masked gadgets over bits, for callers in C and C++ on x86-64 Linux. To be linked
- * with libabi.a, which `rt staticlib abi` writes and which needs nothing but the C library.
+ * with libcalduvren.a, which `rt staticlib calduvren` writes and which needs nothing but the C library.
  *
  * A gadget computes on two operands, a and b, each a secret bit split into shares, and adds random bits, the masks.
  * A watcher reads a few of its wires. The functions below read a gadget's description into a table of its wires, check

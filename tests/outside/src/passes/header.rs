@@ -15,9 +15,9 @@ use std::fs::read_to_string;
 
 const HEADER: &str = "include/calduvren.h";
 const CRATE_FILES: [&str; 3] = [
-    "crates/abi/src/numbering.rt",
-    "crates/abi/src/tables.rt",
-    "crates/abi/src/texts.rt",
+    "crates/calduvren/src/numbering.rt",
+    "crates/calduvren/src/tables.rt",
+    "crates/calduvren/src/texts.rt",
 ];
 const FUNCTIONS: usize = 10;
 

@@ -1,5 +1,0 @@
--- The definitions that the promises of `abi` cite.
---     Calls     what a caller in C gets from a call
---     Meaning   what the numbers that he gets mean
-pub mod Calls
-pub mod Meaning

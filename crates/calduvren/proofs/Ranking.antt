@@ -1,0 +1,157 @@
+-- The paths of the functions on wire counts: what each tells, what a refusal leaves, and what its numbers mean.
+--     sets-positive            a refusal's number is not 0, so status 0 is no refusal
+--     count-gave, count-refused
+--     set-gave, set-refused
+--     rank-gave, rank-refused
+--     job-gave, job-refused
+use Prim.Native.Nat.{ℕ, suc, _<_}
+use native.Mathlib.Omega.{arith}
+use mathlib.Core.Path.{_≡_, refl, sym, _∙_, ap}
+use mathlib.Core.Bool.{Bool, cond, not, _&&_, _||_}
+use mathlib.Core.List.{List, [], _∷_, _++_}
+use borrow.Author.Tests.{leb-false}
+use lib.Dec.{ltb, leb, eqb}
+use lib.ListN.{length, take, drop}
+use Rattle.basics.specs.Told.{Told, Lent, values, refusal, turnedDown}
+use Rattle.basics.proofs.Telling.{test-passed, test-kept, values-refusal}
+use Rattle.counts.specs.Counts.{binom}
+use Rattle.sets.specs.declared.Refusal.{Refusal}
+use Rattle.sets.specs.declared.CountAnswer.{CountAnswer}
+use Rattle.sets.specs.declared.SetAnswer.{SetAnswer}
+use Rattle.sets.specs.declared.RankAnswer.{RankAnswer}
+use Rattle.sets.specs.declared.JobAnswer.{JobAnswer}
+use Rattle.sets.specs.Order.{setAt, rankOf, rising, below}
+use Rattle.sets.specs.Division.{start}
+use Rattle.sets.specs.Answers.{refusalNumber, countTold, setTold, rankTold, jobTold, maxWires, maxSize, maxJobs, setCount, setFromRank, rankFromSet, jobRanks}
+use Rattle.sets.proofs.Rising.{isSet-parts}
+use Rattle.sets.proofs.Revolving.{set-at-is-set}
+use Rattle.verdict.specs.Answers.{written}
+use Rattle.verdict.proofs.Accepting.{written-front, written-rest}
+use Rattle.calduvren.specs.Calls.{got, lentAnswered}
+use Rattle.calduvren.specs.Meaning.{Kept, CountSays, SetSays, RankSays, JobSays}
+use Rattle.calduvren.proofs.Answering.{Numbers, numbers-gave, numbers-refused, lent-refused, kept-0}
+
+pub sets-positive : (why : Refusal) → 0 < refusalNumber why
+sets-positive Refusal.TooManyWires = omega arith
+sets-positive Refusal.SizeTooLarge = omega arith
+sets-positive Refusal.BufferTooShort = omega arith
+sets-positive Refusal.RankTooLarge = omega arith
+sets-positive Refusal.NoSuchJob = omega arith
+sets-positive Refusal.NotASet = omega arith
+
+not-0 : {A : Type 0} (why : Refusal) (status : ℕ) → status ≡ refusalNumber why → status ≡ 0 → A
+not-0 why status s zero = absurd (omega (arith, sets-positive why))
+
+-- where values are told, a test of a chain passed, and the rest tells them
+passes : (b : Bool) (k : ℕ) (rest : Told) (l : List ℕ) → cond b (refusal k) rest ≡ values l → rest ≡ values l
+passes b k rest l e = test-passed refusal (λ t. t) (λ k. refl) b k rest l e .1
+
+module _ (wires size : ℕ) where
+  abbrev sized : Told → Told
+  sized rest = cond (ltb maxSize size) (refusal 17) rest
+
+  -- the tests 12 and 17, which three of the four begin with
+  within : (rest : Told) (l : List ℕ) → cond (ltb maxWires wires) (refusal 12) (sized rest) ≡ values l → rest ≡ values l
+  within rest l e = passes (ltb maxSize size) 17 rest l (passes (ltb maxWires wires) 12 (sized rest) l e)
+
+  module _ (answer : CountAnswer) (told : countTold answer ≡ setCount wires size) (before : ℕ) where
+    pub count-gave : (sets : ℕ) → answer ≡ CountAnswer.Sets sets
+        → Numbers (setCount wires size) (CountSays 0 sets wires size) 0 (sets ∷ []) (before ∷ [])
+    count-gave sets e =
+        let tells = ap countTold (sym e) ∙ told in
+        let same = within (values (binom wires size ∷ [])) (sets ∷ []) (sym tells) in
+        numbers-gave _ _ _ _ tells (λ zero. cc)
+
+    pub count-refused : (why : Refusal) (status : ℕ) → answer ≡ CountAnswer.Refused why → status ≡ refusalNumber why
+        → Numbers (setCount wires size) (CountSays status before wires size) status (before ∷ []) (before ∷ [])
+    count-refused why status e s = numbers-refused _ _ _ _ _ (ap countTold (sym e) ∙ told) s (λ zero. not-0 why status s zero)
+
+  module _ (job jobs : ℕ) (answer : JobAnswer) (told : jobTold answer ≡ jobRanks wires size job jobs) (from-before to-before : ℕ) where
+    pub job-gave : (from to : ℕ) → answer ≡ JobAnswer.Ranks from to
+        → Numbers (jobRanks wires size job jobs) (JobSays 0 from to wires size job jobs) 0 (from ∷ to ∷ []) (from-before ∷ to-before ∷ [])
+    job-gave from to e =
+        let tells = ap jobTold (sym e) ∙ told in
+        let ranks = values (start (binom wires size) jobs job ∷ start (binom wires size) jobs (suc job) ∷ []) in
+        let wrong = eqb jobs 0 || ltb maxJobs jobs || leb jobs job in
+        let same = passes wrong 19 ranks (from ∷ to ∷ []) (within (cond wrong (refusal 19) ranks) (from ∷ to ∷ []) (sym tells)) in
+        numbers-gave _ _ _ _ tells (λ zero. (cc, cc))
+
+    pub job-refused : (why : Refusal) (status : ℕ) → answer ≡ JobAnswer.Refused why → status ≡ refusalNumber why
+        → Numbers (jobRanks wires size job jobs) (JobSays status from-before to-before wires size job jobs) status (from-before ∷ to-before ∷ [])
+        (from-before ∷ to-before ∷ [])
+    job-refused why status e s = numbers-refused _ _ _ _ _ (ap jobTold (sym e) ∙ told) s (λ zero. not-0 why status s zero)
+
+module _ (wires : ℕ) (set : List ℕ) (answer : RankAnswer) (told : rankTold answer ≡ rankFromSet wires set) (before : ℕ) where
+  pub rank-gave : (rank : ℕ) → answer ≡ RankAnswer.Rank rank → Numbers (rankFromSet wires set) (RankSays 0 rank wires set) 0 (rank ∷ []) (before ∷ [])
+  rank-gave rank e =
+      let tells = ap rankTold (sym e) ∙ told in
+      let wrong = not (rising set && below wires set) in
+      let place = values (rankOf wires set ∷ []) in
+      let same = passes wrong 21 place (rank ∷ []) (within wires (length set) (cond wrong (refusal 21) place) (rank ∷ []) (sym tells)) in
+      numbers-gave _ _ _ _ tells (λ zero. cc)
+
+  pub rank-refused : (why : Refusal) (status : ℕ) → answer ≡ RankAnswer.Refused why → status ≡ refusalNumber why
+      → Numbers (rankFromSet wires set) (RankSays status before wires set) status (before ∷ []) (before ∷ [])
+  rank-refused why status e s = numbers-refused _ _ _ _ _ (ap rankTold (sym e) ∙ told) s (λ zero. not-0 why status s zero)
+
+-- ---- set from rank
+
+module _ (wires size rank : ℕ) (buffer held : List ℕ) where
+  abbrev lent : Lent
+  lent = setFromRank wires size rank buffer
+
+  abbrev refuse : ℕ → Lent
+  refuse number = turnedDown number buffer
+
+  abbrev wrote : Lent
+  wrote = record { told = values []; held = setAt wires size rank ++ drop size buffer }
+
+  abbrev late : Lent
+  late = cond (leb (binom wires size) rank) (refuse 18) wrote
+
+  abbrev short : Lent
+  short = cond (ltb (length buffer) size) (refuse 16) late
+
+  -- the set at a rank that is not refused has its size, so the buffer's first so many numbers are the set
+  right : values [] ≡ lent .told → held ≡ lent .held → (take size held ≡ setAt wires size rank) × (drop size held ≡ drop size buffer)
+  right told holds =
+      let tells : Lent → Told = λ a. a .told in
+      let a = test-passed refuse tells (λ k. refl) (ltb maxWires wires) 12 (cond (ltb maxSize size) (refuse 17) short) [] (sym told) in
+      let b = test-passed refuse tells (λ k. refl) (ltb maxSize size) 17 short [] (a .1) in
+      let c = test-passed refuse tells (λ k. refl) (ltb (length buffer) size) 16 late [] (b .1) in
+      let d = test-passed refuse tells (λ k. refl) (leb (binom wires size) rank) 18 wrote [] (c .1) in
+      let whole : lent ≡ wrote = simp (a .0, b .0, c .0, d .0) in
+      let long = isSet-parts wires size (setAt wires size rank) (set-at-is-set wires size rank (leb-false (binom wires size) rank (d .0))) .0 in
+      let same : held ≡ written (setAt wires size rank) buffer =
+      holds ∙ ap (λ (a : Lent). a .held) whole ∙ ap (λ (n : ℕ). setAt wires size rank ++ drop n buffer) (sym long) in
+      (written-front buffer size held (setAt wires size rank) (sym long) same, written-rest buffer size held (setAt wires size rank) (sym long) same)
+
+  kept : (number : ℕ) → refusal number ≡ lent .told → held ≡ lent .held → held ≡ buffer
+  kept number told holds =
+      holds
+      ∙ test-kept buffer (ltb maxWires wires) 12 number (cond (ltb maxSize size) (refuse 17) short) (sym told)
+      (λ e. test-kept buffer (ltb maxSize size) 17 number short e
+      (λ e. test-kept buffer (ltb (length buffer) size) 16 number late e
+      (λ e. test-kept buffer (leb (binom wires size) rank) 18 number wrote e (λ e. absurd (values-refusal [] number e)))))
+
+  abbrev SetPromise : ℕ → Type 0
+  SetPromise status =
+      (got status [] held ≡ lentAnswered lent []) × (Kept status [] [] held buffer × SetSays status wires size rank buffer held)
+
+  module _ (answer : SetAnswer) (told : setTold answer held ≡ setFromRank wires size rank buffer) where
+    pub set-gave : answer ≡ SetAnswer.Written → SetPromise 0
+    set-gave e =
+        let tells = ap (λ (a : SetAnswer). setTold a held) (sym e) ∙ told in (
+          ap (λ (a : Lent). lentAnswered a []) tells,
+          (kept-0 _ _ _ _, λ zero. right (ap (λ (a : Lent). a .told) tells) (ap (λ (a : Lent). a .held) tells)),
+        )
+
+    pub set-refused : (why : Refusal) (status : ℕ) → answer ≡ SetAnswer.Refused why → status ≡ refusalNumber why → SetPromise status
+    set-refused why status e s =
+        let tells = ap (λ (a : SetAnswer). setTold a held) (sym e) ∙ told in (
+          lent-refused [] lent _ status held tells s,
+          (
+            λ no. (refl, kept (refusalNumber why) (ap (λ (a : Lent). a .told) tells) (ap (λ (a : Lent). a .held) tells)),
+            λ zero. not-0 why status s zero,
+          ),
+        )

@@ -1,0 +1,107 @@
+// The operations on a wire table.
+ghost use mathlib.Core.Path.{_≡_};
+ghost use mathlib.Core.List.{[], _∷_};
+ghost use Rattle.table.specs.Answers.{functionCheck};
+ghost use Rattle.verdict.specs.Answers.{verdictOf, rangeCheck};
+ghost use Rattle.calduvren.specs.Calls.{got, answered, lentJudged};
+ghost use Rattle.calduvren.specs.Meaning.{Kept, FunctionSays, VerdictSays, VerdictShows, RangeShows};
+use table::FunctionAnswer;
+use verdict::RangeAnswer;
+use verdict::VerdictAnswer;
+
+// Whether the outer wires add up to a function.
+#[no_mangle]
+pub extern "C" fn calduvren_function_check(
+    table: &[u8],
+    shares: usize,
+    masks: usize,
+    function: usize,
+    yes: &mut u64,
+) -> u64
+    ensures { λ r. ⌜ got r (now (yes .exit) ∷ []) [] ≡ answered (functionCheck (now (table .entry)) shares masks function) (now (yes .entry) ∷ []) [] ⌝ }
+    ensures { λ r. ⌜ Kept r (now (yes .exit) ∷ []) (now (yes .entry) ∷ []) [] [] ⌝ }
+    ensures { λ r. ⌜ FunctionSays r (now (yes .exit)) (now (table .entry)) shares masks function ⌝ }
+{
+    let answer = table::function_check(table, shares, masks, function);
+    match answer {
+        FunctionAnswer::Refused(why) => why.number(),
+        FunctionAnswer::Yes => {
+            *yes = 1;
+            0
+        }
+        FunctionAnswer::No => {
+            *yes = 0;
+            0
+        }
+    }
+}
+
+// Whether the table holds the notion at an order.
+#[no_mangle]
+pub extern "C" fn calduvren_verdict(
+    table: &[u8],
+    shares: usize,
+    masks: usize,
+    notion: usize,
+    order: usize,
+    set: &mut [u16],
+    holds: &mut u64,
+    size: &mut usize,
+) -> u64
+    ensures { λ r. ⌜ got r (now (holds .exit) ∷ now (size .exit) ∷ []) (now (set .exit)) ≡ lentJudged (verdictOf (now (table .entry)) shares masks notion order (now (set .entry))) (now (holds .entry) ∷ now (size .entry) ∷ []) ⌝ }
+    ensures { λ r. ⌜ Kept r (now (holds .exit) ∷ now (size .exit) ∷ []) (now (holds .entry) ∷ now (size .entry) ∷ []) (now (set .exit)) (now (set .entry)) ⌝ }
+    ensures { λ r. ⌜ VerdictShows r (now (holds .exit)) (now (size .exit)) (now (table .entry)) shares masks notion order (now (set .entry)) (now (set .exit)) ⌝ }
+    ensures { λ r. ⌜ VerdictSays r (now (holds .exit)) (now (size .exit)) (now (table .entry)) shares masks notion order (now (set .exit)) ⌝ }
+{
+    let answer = verdict::verdict(table, shares, masks, notion, order, set);
+    match answer {
+        VerdictAnswer::Refused(why) => why.number(),
+        VerdictAnswer::Holds => {
+            *holds = 1;
+            0
+        }
+        VerdictAnswer::Broken { size: wires } => {
+            *holds = 0;
+            *size = wires;
+            0
+        }
+    }
+}
+
+// Whether a set of one size breaks the notion at a rank from `from` up to, without, `to`.
+#[no_mangle]
+pub extern "C" fn calduvren_range_check(
+    table: &[u8],
+    shares: usize,
+    masks: usize,
+    notion: usize,
+    size: usize,
+    from: u64,
+    to: u64,
+    set: &mut [u16],
+    clean: &mut u64,
+    found: &mut usize,
+    rank: &mut u64,
+) -> u64
+    ensures { λ r. ⌜ got r (now (clean .exit) ∷ now (found .exit) ∷ now (rank .exit) ∷ []) (now (set .exit)) ≡ lentJudged (rangeCheck (now (table .entry)) shares masks notion size from to (now (set .entry))) (now (clean .entry) ∷ now (found .entry) ∷ now (rank .entry) ∷ []) ⌝ }
+    ensures { λ r. ⌜ Kept r (now (clean .exit) ∷ now (found .exit) ∷ now (rank .exit) ∷ []) (now (clean .entry) ∷ now (found .entry) ∷ now (rank .entry) ∷ []) (now (set .exit)) (now (set .entry)) ⌝ }
+    ensures { λ r. ⌜ RangeShows r (now (clean .exit)) (now (found .exit)) (now (rank .exit)) (now (table .entry)) shares masks notion size from to (now (set .entry)) (now (set .exit)) ⌝ }
+{
+    let answer = verdict::range_check(table, shares, masks, notion, size, from, to, set);
+    match answer {
+        RangeAnswer::Refused(why) => why.number(),
+        RangeAnswer::Clean => {
+            *clean = 1;
+            0
+        }
+        RangeAnswer::Found {
+            size: wires,
+            rank: place,
+        } => {
+            *clean = 0;
+            *found = wires;
+            *rank = place;
+            0
+        }
+    }
+}
