@@ -5,11 +5,11 @@
 ghost use mathlib.Core.Path.{_≡_};
 ghost use Prim.Native.Nat.{_≤_, _<_};
 ghost use lib.ListN.{length};
-use try_cases::case_end;
-use try_cases::wide;
 use reader::PartAnswer;
 use reader::ReadAnswer;
 use records::layout::RECORD_BYTES;
+use try_cases::case_end;
+use try_cases::wide;
 
 const STDIN: i32 = 0;
 

@@ -3,13 +3,13 @@
 // writes the input, and works the output out by trying every value of shares and masks.
 ghost use Prim.Native.Nat.{_≤_, _<_};
 ghost use Rattle.records.specs.Layout.{wireCount};
-use try_cases::case_end;
-use try_cases::wide;
 use records::layout::RECORD_BYTES;
 use records::sums;
 use table::FunctionAnswer;
 use table::Refusal;
 use table::TableAnswer;
+use try_cases::case_end;
+use try_cases::wide;
 use wires::Notion;
 
 const STDIN: i32 = 0;

@@ -4,11 +4,11 @@
 // and works the output out from the scope.
 ghost use Prim.Native.Nat.{_≤_, _<_};
 ghost use lib.ListN.{length};
-use try_cases::case_end;
-use try_cases::wide;
 use records::layout::RECORD_BYTES;
 use sets::CountAnswer;
 use sets::JobAnswer;
+use try_cases::case_end;
+use try_cases::wide;
 use verdict::RangeAnswer;
 use verdict::Refusal;
 use verdict::VerdictAnswer;
