@@ -20,11 +20,11 @@ use Rattle.sets.specs.declared.CountAnswer.{CountAnswer}
 use Rattle.sets.specs.declared.SetAnswer.{SetAnswer}
 use Rattle.sets.specs.declared.RankAnswer.{RankAnswer}
 use Rattle.sets.specs.declared.JobAnswer.{JobAnswer}
-use Rattle.sets.specs.Order.{setAt, rankOf, rising, below}
+use Rattle.revolving.specs.Order.{setAt, rankOf, rising, below}
 use Rattle.sets.specs.Division.{start}
 use Rattle.sets.specs.Answers.{refusalNumber, countTold, setTold, rankTold, jobTold, maxWires, maxSize, maxJobs, setCount, setFromRank, rankFromSet, jobRanks}
-use Rattle.sets.proofs.Rising.{isSet-parts}
-use Rattle.sets.proofs.Revolving.{set-at-is-set}
+use Rattle.revolving.proofs.Rising.{isSet-parts}
+use Rattle.revolving.proofs.Revolving.{set-at-is-set}
 use Rattle.verdict.specs.Answers.{written}
 use Rattle.verdict.proofs.Accepting.{written-front, written-rest}
 use Rattle.calduvren.specs.Calls.{got, lentAnswered}

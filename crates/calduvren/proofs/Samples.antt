@@ -18,7 +18,7 @@ use Rattle.wires.specs.Function.{computes}
 use Rattle.records.specs.Words.{bit}
 use Rattle.counts.specs.Counts.{binom}
 use Rattle.counts.proofs.Rows.{binom-row}
-use Rattle.sets.specs.Order.{revolving}
+use Rattle.revolving.specs.Order.{revolving}
 use Rattle.sets.specs.Answers.{setCount, setFromRank, rankFromSet, jobRanks}
 use Rattle.table.specs.Answers.{functionCheck}
 use Rattle.table.proofs.Examples.{tableA, tableB, tableC}

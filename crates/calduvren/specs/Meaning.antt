@@ -22,7 +22,7 @@ use Rattle.basics.specs.Told.{values}
 use Rattle.wires.specs.Function.{AddUpTo}
 use Rattle.records.specs.Layout.{recordBytes, wireCount, wires}
 use Rattle.counts.specs.Counts.{binom}
-use Rattle.sets.specs.Order.{setAt, rankOf}
+use Rattle.revolving.specs.Order.{setAt, rankOf}
 use Rattle.sets.specs.Division.{start}
 use Rattle.table.specs.Answers.{tableCheck}
 use Rattle.verdict.specs.Answers.{notionOf}

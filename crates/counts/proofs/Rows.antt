@@ -14,6 +14,7 @@ use mathlib.Core.List.{List, [], _∷_, _++_}
 use borrow.Author.Tests.{eqb-true, eq-eqb}
 use lib.Dec.{eqb}
 use lib.ListN.{length, getD, take, drop, take-append-drop, List·getD-append, replicate}
+use Rattle.limits.specs.Limits.{maxWires, maxSize, sizes}
 use Rattle.counts.specs.Counts.{binom, Counts}
 use Rattle.basics.proofs.Tests.{and-left, and-right}
 use Rattle.counts.proofs.Lists.{getD-second}
@@ -27,7 +28,7 @@ follows left (u ∷ us) (v ∷ vs) = eqb v (u + left) && follows u us vs
 
 abbrev rows : ℕ → List ℕ → List ℕ → Bool
 rows zero row rest = true
-rows (suc m) row rest = follows 0 row (take 8 rest) && rows m (take 8 rest) (drop 8 rest)
+rows (suc m) row rest = follows 0 row (take sizes rest) && rows m (take sizes rest) (drop sizes rest)
 
 -- a first row of one set of no wires, and none of one or more
 abbrev zeros : List ℕ → Bool
@@ -36,10 +37,10 @@ zeros (x ∷ xs) = eqb x 0 && zeros xs
 
 abbrev first : List ℕ → Bool
 first [] = false
-first (x ∷ xs) = eqb x 1 && (eqb (length xs) 7 && zeros xs)
+first (x ∷ xs) = eqb x 1 && (eqb (length xs) maxSize && zeros xs)
 
 abbrev pub pascal : List ℕ → Bool
-pascal table = first (take 8 table) && rows 512 (take 8 table) (drop 8 table)
+pascal table = first (take sizes table) && rows maxWires (take sizes table) (drop sizes table)
 
 follows-length : (left : ℕ) (us vs : List ℕ) → follows left us vs ≡ true → length vs ≡ length us
 follows-length left [] [] e = refl
@@ -76,23 +77,23 @@ binom-before : (n k : ℕ) → binom n k + before 0 (binom n) k ≡ binom (suc n
 binom-before n zero = omega (arith, binom-zero n, binom-zero (suc n))
 binom-before n (suc k) = sym (binom-suc n k)
 
-rows-hold : (m n : ℕ) (row rest : List ℕ) → rows m row rest ≡ true → length row ≡ 8 → Holds row (binom n) →
-    (i k : ℕ) → i ≤ m → k ≤ 7 → getD (row ++ rest) (8 * i + k) 0 ≡ binom (n + i) k
+rows-hold : (m n : ℕ) (row rest : List ℕ) → rows m row rest ≡ true → length row ≡ sizes → Holds row (binom n) →
+    (i k : ℕ) → i ≤ m → k ≤ maxSize → getD (row ++ rest) (sizes * i + k) 0 ≡ binom (n + i) k
 rows-hold m n row rest e long h zero k p q =
-    let at : 8 * 0 + k ≡ k = omega arith in
+    let at : sizes * 0 + k ≡ k = omega arith in
     ap (λ (j : ℕ). getD (row ++ rest) j 0) at
     ∙ List·getD-append row rest 0 k (omega arith)
     ∙ h k (omega arith)
     ∙ ap (λ (j : ℕ). binom j k) (sym (add-zero n))
 rows-hold zero n row rest e long h (suc i) k p q = absurd (not-suc-le-zero p)
 rows-hold (suc m) n row rest e long h (suc i) k p q =
-    let next = take 8 rest in
-    let more = drop 8 rest in
+    let next = take sizes rest in
+    let more = drop sizes rest in
     let now : follows 0 row next ≡ true = and-left (follows 0 row next) (rows m next more) e in
-    let at : length row + (8 * i + k) ≡ 8 * suc i + k = omega arith in
+    let at : length row + (sizes * i + k) ≡ sizes * suc i + k = omega arith in
     let shift : suc n + i ≡ n + suc i = omega arith in
-    getD-second row rest (8 * suc i + k) (8 * i + k) 0 at
-    ∙ ap (λ (l : List ℕ). getD l (8 * i + k) 0) (sym (take-append-drop 8 rest))
+    getD-second row rest (sizes * suc i + k) (sizes * i + k) 0 at
+    ∙ ap (λ (l : List ℕ). getD l (sizes * i + k) 0) (sym (take-append-drop sizes rest))
     ∙ rows-hold m (suc n) next more (and-right (follows 0 row next) (rows m next more) e)
     (follows-length 0 row next now ∙ long)
     (λ j r. follows-holds 0 (binom n) row next now h j r ∙ binom-before n j)
@@ -104,13 +105,13 @@ zeros-hold [] e k p = absurd (not-suc-le-zero p)
 zeros-hold (x ∷ xs) e zero p = eqb-true x 0 (and-left (eqb x 0) (zeros xs) e)
 zeros-hold (x ∷ xs) e (suc k) p = zeros-hold xs (and-right (eqb x 0) (zeros xs) e) k (le-of-suc-le-suc p)
 
-first-holds : (row : List ℕ) → first row ≡ true → (length row ≡ 8) × Holds row (binom 0)
+first-holds : (row : List ℕ) → first row ≡ true → (length row ≡ sizes) × Holds row (binom 0)
 first-holds [] e = absurd (true≢false (sym e))
 first-holds (x ∷ xs) e =
-    let rest : (eqb (length xs) 7 && zeros xs) ≡ true = and-right (eqb x 1) (eqb (length xs) 7 && zeros xs) e in
-    let one : x ≡ 1 = eqb-true x 1 (and-left (eqb x 1) (eqb (length xs) 7 && zeros xs) e) in
-    let seven : length xs ≡ 7 = eqb-true (length xs) 7 (and-left (eqb (length xs) 7) (zeros xs) rest) in
-    (ap suc seven, holds one (zeros-hold xs (and-right (eqb (length xs) 7) (zeros xs) rest)))
+    let rest : (eqb (length xs) maxSize && zeros xs) ≡ true = and-right (eqb x 1) (eqb (length xs) maxSize && zeros xs) e in
+    let one : x ≡ 1 = eqb-true x 1 (and-left (eqb x 1) (eqb (length xs) maxSize && zeros xs) e) in
+    let seven : length xs ≡ maxSize = eqb-true (length xs) maxSize (and-left (eqb (length xs) maxSize) (zeros xs) rest) in
+    (ap suc seven, holds one (zeros-hold xs (and-right (eqb (length xs) maxSize) (zeros xs) rest)))
   where
     holds : x ≡ 1 → Holds xs (λ k. 0) → Holds (x ∷ xs) (binom 0)
     holds one none zero p = one ∙ sym (binom-zero 0)
@@ -119,11 +120,11 @@ first-holds (x ∷ xs) e =
 pub pascal-counts : (table : List ℕ) → pascal table ≡ true → Counts table
 unfolding Counts
 pascal-counts table e n k p q =
-    let row = take 8 table in
-    let more = drop 8 table in
-    let start = first-holds row (and-left (first row) (rows 512 row more) e) in
-    ap (λ (l : List ℕ). getD l (8 * n + k) 0) (sym (take-append-drop 8 table))
-    ∙ rows-hold 512 0 row more (and-right (first row) (rows 512 row more) e) (start .0) (start .1) n k p q
+    let row = take sizes table in
+    let more = drop sizes table in
+    let start = first-holds row (and-left (first row) (rows maxWires row more) e) in
+    ap (λ (l : List ℕ). getD l (sizes * n + k) 0) (sym (take-append-drop sizes table))
+    ∙ rows-hold maxWires 0 row more (and-right (first row) (rows maxWires row more) e) (start .0) (start .1) n k p q
     ∙ ap (λ (j : ℕ). binom j k) (zero-add n)
 
 abbrev pub nextRow : ℕ → List ℕ → List ℕ
@@ -131,14 +132,14 @@ nextRow left [] = []
 nextRow left (u ∷ us) = (u + left) ∷ nextRow u us
 
 abbrev pub row : ℕ → List ℕ
-row zero = 1 ∷ replicate 7 0
+row zero = 1 ∷ replicate maxSize 0
 row (suc n) = nextRow 0 (row n)
 
 next-follows : (left : ℕ) (us : List ℕ) → follows left us (nextRow left us) ≡ true
 next-follows left [] = refl
 next-follows left (u ∷ us) = rw (eq-eqb (u + left) (u + left) refl) (next-follows u us)
 
-row-holds : (n : ℕ) → (length (row n) ≡ 8) × Holds (row n) (binom n)
+row-holds : (n : ℕ) → (length (row n) ≡ sizes) × Holds (row n) (binom n)
 row-holds zero = first-holds (row 0) refl
 row-holds (suc n) =
     let ih = row-holds n in
@@ -147,5 +148,5 @@ row-holds (suc n) =
       λ k p. follows-holds 0 (binom n) (row n) (row (suc n)) rule (ih .1) k p ∙ binom-before n k,
     )
 
-pub binom-row : (n k : ℕ) → k ≤ 7 → binom n k ≡ getD (row n) k 0
+pub binom-row : (n k : ℕ) → k ≤ maxSize → binom n k ≡ getD (row n) k 0
 binom-row n k p = sym (row-holds n .1 k (omega (arith, row-holds n .0)))

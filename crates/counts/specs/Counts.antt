@@ -5,6 +5,7 @@ use Prim.Native.Nat.{ℕ, zero, suc, _+_, _*_, _≤_}
 use mathlib.Core.Path.{_≡_}
 use mathlib.Core.List.{List}
 use lib.ListN.{getD}
+use Rattle.limits.specs.Limits.{maxWires, maxSize, sizes}
 
 -- those without wire n, and those with it
 unfoldable pub binom : ℕ → ℕ → ℕ
@@ -13,4 +14,4 @@ binom zero (suc k) = 0
 binom (suc n) (suc k) = binom n (suc k) + binom n k
 
 unfoldable pub Counts : List ℕ → Type 0
-Counts table = (n k : ℕ) → n ≤ 512 → k ≤ 7 → getD table (8 * n + k) 0 ≡ binom n k
+Counts table = (n k : ℕ) → n ≤ maxWires → k ≤ maxSize → getD table (sizes * n + k) 0 ≡ binom n k

@@ -1,6 +1,8 @@
-// The number of sets of k out of n wires stands at 8 n + k, for 0 to 512 wires and sizes 0 to 7.
+// The counts: a row for each number of wires from 0 on, in it the number of sets of each size from 0 on.
 // `table` promises that these are the numbers of Pascal's rule, by one test over all of them.
-pub const COUNTS: [u64; 4104] = [
+use limits::COUNTS;
+
+pub const PASCAL: [u64; COUNTS] = [
     1,
     0,
     0,

@@ -18,7 +18,7 @@ use Rattle.wires.proofs.Breaks.{empty-breaks-nothing}
 use Rattle.records.specs.Words.{bit}
 use Rattle.counts.specs.Counts.{binom}
 use Rattle.counts.proofs.Rows.{binom-row}
-use Rattle.sets.specs.Order.{revolving}
+use Rattle.revolving.specs.Order.{revolving}
 use Rattle.sets.specs.Division.{start}
 use Rattle.sets.proofs.Examples.{rank-one-of-pairs}
 use Rattle.description.specs.Header.{orderLine, masksLine, namesFrom}

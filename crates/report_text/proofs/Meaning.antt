@@ -37,7 +37,7 @@ use Rattle.wires.proofs.Function.{computes-exactly}
 use Rattle.watcher.proofs.Bits.{pick, pick-map}
 use Rattle.watcher.proofs.Choice.{choice}
 use Rattle.records.specs.Layout.{wireAt, wireCount, wires}
-use Rattle.sets.specs.Order.{rankOf}
+use Rattle.revolving.specs.Order.{rankOf}
 use Rattle.table.specs.Answers.{maxTableBytes, tableCheck, functionCheck}
 use Rattle.table.proofs.Entries.{accepted, accepted-exactly, tested-answer}
 use Rattle.verdict.specs.Search.{searched, isBreaking}

@@ -16,9 +16,9 @@ use mathlib.Core.List.{List, _++_}
 use lib.ListN.{take}
 use lib.Seq.{take-add, take-all}
 use Rattle.counts.specs.Counts.{binom}
-use Rattle.sets.specs.Order.{revolving, setAt, rankOf, isSet}
+use Rattle.revolving.specs.Order.{revolving, setAt, rankOf, isSet}
 use Rattle.sets.specs.Division.{start, share, total, visited, joined, HasRank, ExactlyOne}
-use Rattle.sets.proofs.Revolving.{revolving-length, set-of-rank, rank-unique}
+use Rattle.revolving.proofs.Revolving.{revolving-length, set-of-rank, rank-unique}
 
 pub start-zero : (all jobs : ℕ) → start all jobs 0 ≡ 0
 start-zero all jobs = simp (zero-mul, zero-div)

@@ -13,28 +13,29 @@ use mathlib.Core.List.{List, [], _∷_, _++_, append-nil}
 use borrow.Author.Tests.{le-ltb, le-leb, lt-leb, ne-eqb}
 use lib.Dec.{eqb}
 use lib.ListN.{length, drop, replicate, length-replicate, drop-of-length-le}
+use Rattle.limits.specs.Limits.{maxWires, maxSize}
 use Rattle.basics.specs.Told.{Lent, values, refusal}
 use Rattle.counts.specs.Counts.{binom}
 use Rattle.basics.proofs.Tests.{and-right}
 use Rattle.basics.proofs.Telling.{values-refusal}
-use Rattle.sets.specs.Order.{revolving, setAt, rankOf, rising, below, isSet}
+use Rattle.revolving.specs.Order.{revolving, setAt, rankOf, rising, below, isSet}
 use Rattle.sets.specs.Division.{start, HasRank, ExactlyOne}
-use Rattle.sets.specs.Answers.{setCount, setFromRank, rankFromSet, jobRanks}
+use Rattle.sets.specs.Answers.{maxJobs, setCount, setFromRank, rankFromSet, jobRanks}
 use Rattle.sets.specs.Visits.{JobTells, SetTells, RankTells}
-use Rattle.sets.proofs.Rising.{isSet-parts, parts-isSet}
-use Rattle.sets.proofs.Revolving.{revolving-length, set-at-is-set, set-of-rank, rank-unique}
+use Rattle.revolving.proofs.Rising.{isSet-parts, parts-isSet}
+use Rattle.revolving.proofs.Revolving.{revolving-length, set-at-is-set, set-of-rank, rank-unique}
 use Rattle.sets.proofs.Division.{visited-once, rank-counted}
 
-pub count-told : (n k : ℕ) → n ≤ 512 → k ≤ 7 → setCount n k ≡ values (length (revolving n k) ∷ [])
-count-told n k a b = simp (le-ltb 512 n a, le-ltb 7 k b, revolving-length n k)
+pub count-told : (n k : ℕ) → n ≤ maxWires → k ≤ maxSize → setCount n k ≡ values (length (revolving n k) ∷ [])
+count-told n k a b = simp (le-ltb maxWires n a, le-ltb maxSize k b, revolving-length n k)
 
 -- a job's ranks, as told
-module _ (n k jobs : ℕ) (a : n ≤ 512) (b : k ≤ 7) (some : 0 < jobs) (c : jobs ≤ 65536) where
+module _ (n k jobs : ℕ) (a : n ≤ maxWires) (b : k ≤ maxSize) (some : 0 < jobs) (c : jobs ≤ maxJobs) where
   pub job-told : (i : ℕ) → i < jobs → jobRanks n k i jobs ≡ values (start (binom n k) jobs i ∷ start (binom n k) jobs (suc i) ∷ [])
-  job-told i d = simp (le-ltb 512 n a, le-ltb 7 k b, ne-eqb jobs 0 (omega arith), le-ltb 65536 jobs c, lt-leb jobs i d)
+  job-told i d = simp (le-ltb maxWires n a, le-ltb maxSize k b, ne-eqb jobs 0 (omega arith), le-ltb maxJobs jobs c, lt-leb jobs i d)
 
   job-refused : (i : ℕ) → jobs ≤ i → jobRanks n k i jobs ≡ refusal 19
-  job-refused i d = simp (le-ltb 512 n a, le-ltb 7 k b, ne-eqb jobs 0 (omega arith), le-ltb 65536 jobs c, le-leb jobs i d)
+  job-refused i d = simp (le-ltb maxWires n a, le-ltb maxSize k b, ne-eqb jobs 0 (omega arith), le-ltb maxJobs jobs c, le-leb jobs i d)
 
   has-told : (i r : ℕ) → HasRank (binom n k) jobs i r → JobTells n k jobs i r
   has-told i r h = record { from = start (binom n k) jobs i; to = start (binom n k) jobs (suc i); told = job-told i (h .inside); low = h .from; high = h .to }
@@ -52,12 +53,12 @@ module _ (n k jobs : ℕ) (a : n ≤ 512) (b : k ≤ 7) (some : 0 < jobs) (c : j
       go (no d) = absurd (values-refusal (t .from ∷ t .to ∷ []) 19 (sym (t .told) ∙ job-refused i (omega arith)))
 
 -- the set of a rank, as told
-module _ (n k : ℕ) (a : n ≤ 512) (b : k ≤ 7) where
+module _ (n k : ℕ) (a : n ≤ maxWires) (b : k ≤ maxSize) where
   pub at-told : (r : ℕ) → r < binom n k → SetTells n k r (setAt n k r)
-  at-told r h buffer room = simp (le-ltb 512 n a, le-ltb 7 k b, le-ltb (length buffer) k room, lt-leb (binom n k) r h)
+  at-told r h buffer room = simp (le-ltb maxWires n a, le-ltb maxSize k b, le-ltb (length buffer) k room, lt-leb (binom n k) r h)
 
   at-refused : (r : ℕ) → binom n k ≤ r → (buffer : List ℕ) → k ≤ length buffer → setFromRank n k r buffer ≡ record { told = refusal 18; held = buffer }
-  at-refused r h buffer room = simp (le-ltb 512 n a, le-ltb 7 k b, le-ltb (length buffer) k room, le-leb (binom n k) r h)
+  at-refused r h buffer room = simp (le-ltb maxWires n a, le-ltb maxSize k b, le-ltb (length buffer) k room, le-leb (binom n k) r h)
 
   -- a buffer that the set fills
   abbrev filled : List ℕ
@@ -81,7 +82,7 @@ module _ (n k : ℕ) (a : n ≤ 512) (b : k ≤ 7) where
       let none : drop k filled ≡ [] = drop-of-length-le filled {i = k} (omega (arith, length-replicate {A = ℕ} k 0)) in
       sym (append-nil (setAt n k r)) ∙ ap (λ (l : List ℕ). setAt n k r ++ l) (sym none) ∙ e ∙ ap (λ (l : List ℕ). s ++ l) none ∙ append-nil s
 
-pub told-once : (n k jobs : ℕ) → n ≤ 512 → k ≤ 7 → 0 < jobs → jobs ≤ 65536 → (s : List ℕ) → isSet n k s ≡ true → ExactlyOne (JobTells n k jobs) (λ r. SetTells n k r s)
+pub told-once : (n k jobs : ℕ) → n ≤ maxWires → k ≤ maxSize → 0 < jobs → jobs ≤ maxJobs → (s : List ℕ) → isSet n k s ≡ true → ExactlyOne (JobTells n k jobs) (λ r. SetTells n k r s)
 told-once n k jobs a b some c s e =
     let once = visited-once n k jobs some s e in
     let counted = rank-counted (binom n k) jobs (once .job) (once .rank) some (once .visits) in
@@ -94,12 +95,12 @@ told-once n k jobs a b some c s e =
     }
 
 -- the rank of a set, as told
-module _ (n : ℕ) (s : List ℕ) (a : n ≤ 512) (b : length s ≤ 7) where
+module _ (n : ℕ) (s : List ℕ) (a : n ≤ maxWires) (b : length s ≤ maxSize) where
   rank-told : (rising s && below n s) ≡ true → RankTells n s (rankOf n s)
-  rank-told e = simp (le-ltb 512 n a, le-ltb 7 (length s) b, e)
+  rank-told e = simp (le-ltb maxWires n a, le-ltb maxSize (length s) b, e)
 
   rank-refused : (rising s && below n s) ≡ false → rankFromSet n s ≡ refusal 21
-  rank-refused e = simp (le-ltb 512 n a, le-ltb 7 (length s) b, e)
+  rank-refused e = simp (le-ltb maxWires n a, le-ltb maxSize (length s) b, e)
 
   told-rising : (r : ℕ) → RankTells n s r → (rising s && below n s) ≡ true
   told-rising r t = go (rising s && below n s) refl
@@ -108,12 +109,12 @@ module _ (n : ℕ) (s : List ℕ) (a : n ≤ 512) (b : length s ≤ 7) where
       go true e = e
       go false e = absurd (values-refusal (r ∷ []) 21 (sym t ∙ rank-refused e))
 
-pub rank-and-set : (n k r : ℕ) (s : List ℕ) → n ≤ 512 → k ≤ 7 → ((length s ≡ k) × RankTells n s r) ↔ SetTells n k r s
+pub rank-and-set : (n k r : ℕ) (s : List ℕ) → n ≤ maxWires → k ≤ maxSize → ((length s ≡ k) × RankTells n s r) ↔ SetTells n k r s
 rank-and-set n k r s a b = (there, back)
   where
     there : (length s ≡ k) × RankTells n s r → SetTells n k r s
     there t =
-        let short : length s ≤ 7 = omega (arith, t .0) in
+        let short : length s ≤ maxSize = omega (arith, t .0) in
         let wires = told-rising n s a short r (t .1) in
         let p = t .1 in
         let q = rank-told n s a short wires in

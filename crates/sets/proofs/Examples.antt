@@ -4,15 +4,16 @@ use native.Mathlib.Omega.{arith}
 use mathlib.Core.Path.{_≡_, refl, ap, subst, _∙_}
 use mathlib.Core.List.{[], _∷_}
 use lib.ListN.{replicate}
+use Rattle.limits.specs.Limits.{maxWires}
 use Rattle.counts.specs.Counts.{binom}
 use Rattle.counts.proofs.Rows.{binom-row}
 use Rattle.counts.proofs.Binomial.{binom-wider}
-use Rattle.sets.specs.Order.{revolving, setAt}
+use Rattle.revolving.specs.Order.{revolving, setAt}
 use Rattle.sets.specs.Division.{start}
 use Rattle.basics.specs.Told.{values, refusal, turnedDown}
 use Rattle.sets.specs.Answers.{setCount, setFromRank, rankFromSet, jobRanks}
 use Rattle.sets.specs.Visits.{SetTells}
-use Rattle.sets.proofs.Revolving.{set-at-wider}
+use Rattle.revolving.proofs.Revolving.{set-at-wider}
 use Rattle.sets.proofs.Entries.{at-told}
 
 pub pairs-of-four : revolving 4 2 ≡ (0 ∷ 1 ∷ []) ∷ (1 ∷ 2 ∷ []) ∷ (0 ∷ 2 ∷ []) ∷ (2 ∷ 3 ∷ []) ∷ (1 ∷ 3 ∷ []) ∷ (0 ∷ 3 ∷ []) ∷ []
@@ -24,7 +25,7 @@ unfolding binom revolving
 pairs-of-three = (refl, refl)
 
 -- rank 1 of pairs is 1, 2, out of any number of wires that has such a pair
-pub rank-one-of-pairs : (n : ℕ) → 3 ≤ n → n ≤ 512 → SetTells n 2 1 (1 ∷ 2 ∷ [])
+pub rank-one-of-pairs : (n : ℕ) → 3 ≤ n → n ≤ maxWires → SetTells n 2 1 (1 ∷ 2 ∷ [])
 rank-one-of-pairs n a b =
     let three = pairs-of-three .0 in
     subst (SetTells n 2 1) (set-at-wider 3 n 2 1 a (omega (arith, three)) ∙ pairs-of-three .1)

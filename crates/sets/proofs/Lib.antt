@@ -1,8 +1,4 @@
--- The lemmas behind `sets`, and the theorems on the order and on divisions that other crates cite.
-pub mod Lists
-pub mod Rising
-pub mod Revolving
+-- The lemmas behind `sets`, and the theorems on divisions and on what the entries tell that other crates cite.
 pub mod Division
-pub mod Unranking
 pub mod Entries
 pub mod Examples

@@ -2,16 +2,17 @@
 -- "What each operation turns down").
 --     refusalNumber       the scope's number of each refusal
 --     countTold, setTold, rankTold, jobTold            what each answer of the code tells
---     maxWires, maxSize, maxJobs                       the limits
+--     maxJobs             the most jobs of a division
 --     setCount, setFromRank, rankFromSet, jobRanks     what each entry is to tell
 use Prim.Native.Nat.{ℕ, suc}
 use mathlib.Core.Bool.{cond, _&&_, _||_, not}
 use mathlib.Core.List.{List, [], _∷_, _++_}
 use lib.Dec.{ltb, leb, eqb}
 use lib.ListN.{length, drop}
+use Rattle.limits.specs.Limits.{maxWires, maxSize}
 use Rattle.basics.specs.Told.{Told, Lent, values, refusal, turnedDown}
 use Rattle.counts.specs.Counts.{binom}
-use Rattle.sets.specs.Order.{setAt, rankOf, rising, below}
+use Rattle.revolving.specs.Order.{setAt, rankOf, rising, below}
 use Rattle.sets.specs.Division.{start}
 use Rattle.sets.specs.declared.Refusal.{Refusal}
 use Rattle.sets.specs.declared.Refusal.the-variants.{TooManyWires, SizeTooLarge, BufferTooShort, RankTooLarge, NoSuchJob, NotASet}
@@ -43,12 +44,6 @@ rankTold (RankAnswer.Refused why) = refusal (refusalNumber why)
 abbrev pub jobTold : JobAnswer → Told
 jobTold (JobAnswer.Ranks from to) = values (from ∷ to ∷ [])
 jobTold (JobAnswer.Refused why) = refusal (refusalNumber why)
-
-abbrev pub maxWires : ℕ
-maxWires = 512
-
-abbrev pub maxSize : ℕ
-maxSize = 7
 
 abbrev pub maxJobs : ℕ
 maxJobs = 65536

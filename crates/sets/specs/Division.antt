@@ -11,7 +11,7 @@ use mathlib.Core.Path.{_≡_}
 use mathlib.Core.List.{List, [], _++_}
 use lib.ListN.{take, drop}
 use Rattle.counts.specs.Counts.{binom}
-use Rattle.sets.specs.Order.{revolving}
+use Rattle.revolving.specs.Order.{revolving}
 
 -- the floor of the whole product i times all over jobs, which no word has to hold
 abbrev pub start : ℕ → ℕ → ℕ → ℕ

@@ -1,9 +1,7 @@
 -- The definitions that the promises of `sets` cite.
---     Order     the revolving-door order, set from rank, rank from set
 --     Division  the ranks and the sets of a job
 --     Answers   each answer in the numbers of the scope, and what each entry answers
 --     Visits    what the entries tell, taken together
-pub mod Order
 pub mod Division
 pub mod Answers
 pub mod Visits

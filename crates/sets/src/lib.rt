@@ -3,14 +3,10 @@
 // in the scope's order, and a refusal alters no lent number.
 ghost use mathlib.Core.Path.{_≡_};
 ghost use Prim.Native.Nat.{_≤_, _<_};
-ghost use Rattle.sets.specs.Answers.{refusalNumber, countTold, setTold, rankTold, jobTold, setCount, setFromRank, rankFromSet, jobRanks};
+ghost use Rattle.sets.specs.Answers.{refusalNumber, countTold, setTold, rankTold, jobTold, setCount, setFromRank, rankFromSet, jobRanks, maxJobs};
 ghost use Rattle.sets.specs.Division.{start};
-
-pub mod order;
-
-pub const MAX_WIRES: usize = 512;
-
-pub const MAX_SIZE: usize = 7;
+use limits::MAX_SIZE;
+use limits::MAX_WIRES;
 
 pub const MAX_JOBS: u64 = 65536;
 
@@ -93,7 +89,7 @@ pub fn set_from_rank(wires: usize, size: usize, rank: u64, set: &mut [u16]) -> S
     if all <= rank {
         return SetAnswer::Refused(Refusal::RankTooLarge);
     }
-    order::unrank(&table, wires, size, rank, set);
+    revolving::unrank(&table, wires, size, rank, set);
     SetAnswer::Written
 }
 
@@ -107,11 +103,11 @@ pub fn rank_from_set(wires: usize, set: &[u16]) -> RankAnswer
     if MAX_SIZE < set.len() {
         return RankAnswer::Refused(Refusal::SizeTooLarge);
     }
-    if !order::is_rising(wires, set) {
+    if !revolving::is_rising(wires, set) {
         return RankAnswer::Refused(Refusal::NotASet);
     }
     let table = counts::table();
-    RankAnswer::Rank(order::rank(&table, wires, set))
+    RankAnswer::Rank(revolving::rank(&table, wires, set))
 }
 
 // The ranks that job number `job` of `jobs` has to visit.
@@ -144,7 +140,7 @@ pub fn job(wires: usize, size: usize, job: u64, jobs: u64) -> JobAnswer
 // The floor of i × all / jobs. The product passes 64 bits, so the quotient is put together from that of `all` and what
 // its rest adds.
 fn first_rank(all: u64, jobs: u64, i: u64) -> u64
-    requires { ⌜ (0 < jobs) × (jobs ≤ 65536) × (i ≤ jobs) ⌝ }
+    requires { ⌜ (0 < jobs) × (jobs ≤ maxJobs) × (i ≤ jobs) ⌝ }
     ensures { λ r. ⌜ r ≡ start all jobs i ⌝ }
 {
     let whole = all / jobs;

@@ -41,9 +41,9 @@ fn there_and_back(table: &[u64; 4104], rank: u64) -> u64
     ensures { λ r. ⌜ r ≤ 1 ⌝ }
 {
     let mut set = [0u16; 7];
-    sets::order::unrank(table, WIRES, SIZE, rank, &mut set);
-    if sets::order::is_rising(WIRES, &set) {
-        if sets::order::rank(table, WIRES, &set) == rank {
+    revolving::unrank(table, WIRES, SIZE, rank, &mut set);
+    if revolving::is_rising(WIRES, &set) {
+        if revolving::rank(table, WIRES, &set) == rank {
             return 1;
         }
     }

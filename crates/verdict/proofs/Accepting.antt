@@ -24,7 +24,7 @@ use Rattle.records.specs.Layout.{wireCount}
 use Rattle.table.specs.Answers.{tableCheck}
 use Rattle.table.proofs.Entries.{Accepted, accepted, Sound, accepted-exactly, tested-answer}
 use Rattle.counts.specs.Counts.{binom}
-use Rattle.sets.specs.Order.{rankOf}
+use Rattle.revolving.specs.Order.{rankOf}
 use Rattle.verdict.specs.declared.VerdictAnswer.{VerdictAnswer}
 use Rattle.verdict.specs.declared.RangeAnswer.{RangeAnswer}
 use Rattle.verdict.specs.Search.{searched, stretch, isBreaking}

@@ -21,8 +21,8 @@ use Rattle.wires.specs.declared.Notion.{Notion}
 use Rattle.wires.specs.Wires.{breaks}
 use Rattle.records.specs.Layout.{wireAt, wireCount}
 use Rattle.table.proofs.Entries.{Accepted, shares-high, set-decided}
-use Rattle.sets.specs.Order.{revolving, setAt, isSet}
-use Rattle.sets.proofs.Revolving.{revolving-length, set-at-is-set}
+use Rattle.revolving.specs.Order.{revolving, setAt, isSet}
+use Rattle.revolving.proofs.Revolving.{revolving-length, set-at-is-set}
 use Rattle.verdict.specs.declared.Refusal.{Refusal}
 use Rattle.verdict.specs.declared.Refusal.the-variants.{OrderOutOfRange, BufferTooShort}
 use Rattle.verdict.specs.declared.Opened.{Opened}

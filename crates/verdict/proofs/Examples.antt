@@ -21,7 +21,7 @@ use Rattle.watcher.proofs.Choice.{no-choice}
 use Rattle.records.specs.Words.{bit}
 use Rattle.records.specs.Layout.{wireAt}
 use Rattle.counts.specs.Counts.{binom}
-use Rattle.sets.specs.Order.{revolving}
+use Rattle.revolving.specs.Order.{revolving}
 use Rattle.sets.specs.declared.JobAnswer.{JobAnswer}
 use Rattle.sets.specs.Answers.{jobTold}
 use Rattle.table.specs.declared.Refusal.the-variants.{SharesOrMasks, TableLength, RecordOutOfRange}

@@ -10,9 +10,9 @@ use Rattle.basics.specs.Folds.{keep}
 use Rattle.basics.specs.Told.{Lent, values}
 use Rattle.records.specs.Layout.{wireCount}
 use Rattle.counts.specs.Counts.{binom}
-use Rattle.sets.specs.Order.{setAt}
-use Rattle.sets.proofs.Rising.{isSet-parts}
-use Rattle.sets.proofs.Revolving.{set-at-is-set}
+use Rattle.revolving.specs.Order.{setAt}
+use Rattle.revolving.proofs.Rising.{isSet-parts}
+use Rattle.revolving.proofs.Revolving.{set-at-is-set}
 use Rattle.verdict.specs.declared.VerdictAnswer.{VerdictAnswer}
 use Rattle.verdict.specs.declared.RangeAnswer.{RangeAnswer}
 use Rattle.verdict.specs.Search.{searched, stretch, isBreaking}

@@ -19,9 +19,9 @@ use Rattle.basics.specs.Told.{Lent}
 use Rattle.basics.proofs.Folds.{keep-append}
 use Rattle.records.specs.Layout.{wireCount}
 use Rattle.counts.specs.Counts.{binom}
-use Rattle.sets.specs.Order.{revolving, setAt, rankOf, isSet}
-use Rattle.sets.proofs.Rising.{isSet-parts}
-use Rattle.sets.proofs.Revolving.{revolving-length, set-at-is-set, rank-of-set, set-of-rank}
+use Rattle.revolving.specs.Order.{revolving, setAt, rankOf, isSet}
+use Rattle.revolving.proofs.Rising.{isSet-parts}
+use Rattle.revolving.proofs.Revolving.{revolving-length, set-at-is-set, rank-of-set, set-of-rank}
 use Rattle.verdict.specs.Search.{searched, stretch, isBreaking}
 use Rattle.verdict.specs.Answers.{notionOf, firstShown, firstRanked, verdictOf, rangeCheck}
 use Rattle.verdict.specs.Guarantee.{Watched}

@@ -23,9 +23,9 @@ use Rattle.basics.proofs.Telling.{test-passed}
 use Rattle.records.specs.Layout.{wireCount}
 use Rattle.table.proofs.Entries.{accepted-exactly}
 use Rattle.counts.specs.Counts.{binom}
-use Rattle.sets.specs.Order.{revolving, setAt, rankOf, isSet}
+use Rattle.revolving.specs.Order.{revolving, setAt, rankOf, isSet}
 use Rattle.sets.specs.Answers.{jobRanks}
-use Rattle.sets.proofs.Revolving.{revolving-length, set-at-is-set}
+use Rattle.revolving.proofs.Revolving.{revolving-length, set-at-is-set}
 use Rattle.sets.specs.Division.{start, visited, joined}
 use Rattle.sets.proofs.Division.{start-rises, start-within, jobs-joined}
 use Rattle.sets.proofs.Entries.{job-told}

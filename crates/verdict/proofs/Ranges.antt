@@ -17,9 +17,9 @@ use Rattle.wires.specs.declared.Notion.{Notion}
 use Rattle.records.specs.Layout.{wireCount}
 use Rattle.table.proofs.Entries.{Accepted}
 use Rattle.counts.specs.Counts.{binom}
-use Rattle.sets.specs.Order.{setAt}
-use Rattle.sets.proofs.Rising.{isSet-parts}
-use Rattle.sets.proofs.Revolving.{set-at-is-set, rank-of-set}
+use Rattle.revolving.specs.Order.{setAt}
+use Rattle.revolving.proofs.Rising.{isSet-parts}
+use Rattle.revolving.proofs.Revolving.{set-at-is-set, rank-of-set}
 use Rattle.verdict.specs.declared.Opened.{Opened}
 use Rattle.verdict.specs.declared.RangeAnswer.{RangeAnswer}
 use Rattle.verdict.specs.Search.{stretch, isBreaking, first, FirstRank}

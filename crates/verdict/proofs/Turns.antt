@@ -24,9 +24,9 @@ use Rattle.wires.specs.declared.Notion.{Notion}
 use Rattle.wires.specs.Wires.{breaks}
 use Rattle.records.specs.Layout.{wireAt, wireCount, inside}
 use Rattle.counts.specs.Counts.{binom}
-use Rattle.sets.specs.Order.{revolving, setAt, rising, below, isSet}
-use Rattle.sets.proofs.Rising.{isSet-parts}
-use Rattle.sets.proofs.Revolving.{revolving-length, set-at-is-set}
+use Rattle.revolving.specs.Order.{revolving, setAt, rising, below, isSet}
+use Rattle.revolving.proofs.Rising.{isSet-parts}
+use Rattle.revolving.proofs.Revolving.{revolving-length, set-at-is-set}
 use Rattle.verdict.specs.Search.{searched, stretch, isBreaking, first, FirstSet, FirstRank}
 use Rattle.verdict.proofs.Keeping.{take-none, drop-none, keep-none-more, keep-found}
 

@@ -22,9 +22,9 @@ use Rattle.wires.proofs.Breaks.{empty-breaks-nothing}
 use Rattle.watcher.proofs.Bits.{pick, pick-map}
 use Rattle.watcher.proofs.Choice.{choice, no-choice}
 use Rattle.records.specs.Layout.{wireAt, wireCount}
-use Rattle.sets.specs.Order.{revolving, setAt, rankOf, rising, below, isSet}
-use Rattle.sets.proofs.Rising.{Chosen, chosen-true, chosen-is, rising-chosen, isSet-parts, parts-isSet}
-use Rattle.sets.proofs.Revolving.{revolving-length, set-at-is-set, set-of-rank}
+use Rattle.revolving.specs.Order.{revolving, setAt, rankOf, rising, below, isSet}
+use Rattle.revolving.proofs.Rising.{Chosen, chosen-true, chosen-is, rising-chosen, isSet-parts, parts-isSet}
+use Rattle.revolving.proofs.Revolving.{revolving-length, set-at-is-set, set-of-rank}
 use Rattle.verdict.specs.declared.Refusal.{Refusal}
 use Rattle.verdict.specs.declared.VerdictAnswer.{VerdictAnswer}
 use Rattle.verdict.specs.Search.{searched, isBreaking}

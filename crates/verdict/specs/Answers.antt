@@ -21,7 +21,7 @@ use Rattle.wires.specs.declared.Notion.the-variants.{Ni, Sni}
 use Rattle.records.specs.Layout.{wireCount}
 use Rattle.table.specs.Answers as table-answers
 use Rattle.counts.specs.Counts.{binom}
-use Rattle.sets.specs.Order.{rankOf}
+use Rattle.revolving.specs.Order.{rankOf}
 use Rattle.sets.specs.Answers.{maxSize}
 use Rattle.verdict.specs.declared.Refusal.{Refusal}
 use Rattle.verdict.specs.declared.Refusal.the-variants.{Table, NoSuchNotion, OrderOutOfRange, BufferTooShort, SizeTooLarge, RanksOutOfRange}

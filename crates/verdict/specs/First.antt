@@ -12,7 +12,7 @@ use mathlib.Core.Bool.{true, false}
 use mathlib.Core.List.{List}
 use lib.ListN.{length, take, drop}
 use Rattle.records.specs.Layout.{wireCount}
-use Rattle.sets.specs.Order.{setAt, rankOf}
+use Rattle.revolving.specs.Order.{setAt, rankOf}
 use Rattle.verdict.specs.declared.Refusal.{Refusal}
 use Rattle.verdict.specs.declared.VerdictAnswer.{VerdictAnswer}
 use Rattle.verdict.specs.declared.RangeAnswer.{RangeAnswer}

@@ -10,7 +10,7 @@ use mathlib.Core.Bool.{true}
 use mathlib.Core.List.{List, map}
 use lib.ListN.{length, take}
 use Rattle.records.specs.Layout.{wireAt, wireCount}
-use Rattle.sets.specs.Order.{rising, below}
+use Rattle.revolving.specs.Order.{rising, below}
 use Rattle.watcher.specs.Watcher.{Choice}
 use Rattle.verdict.specs.declared.Refusal.{Refusal}
 use Rattle.verdict.specs.declared.VerdictAnswer.{VerdictAnswer}

@@ -15,7 +15,7 @@ use Rattle.basics.specs.Folds.{keep}
 use Rattle.wires.specs.declared.Notion.{Notion}
 use Rattle.wires.specs.Wires.{breaks}
 use Rattle.records.specs.Layout.{wireAt}
-use Rattle.sets.specs.Order.{revolving, setAt}
+use Rattle.revolving.specs.Order.{revolving, setAt}
 
 unfoldable pub searched : ℕ → ℕ → List (List ℕ)
 searched n zero = []

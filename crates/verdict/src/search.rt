@@ -4,13 +4,13 @@ ghost use mathlib.Core.List.{_++_};
 ghost use Prim.Native.Nat.{_≤_, _<_};
 ghost use lib.ListN.{length, drop};
 ghost use Rattle.counts.specs.Counts.{binom, Counts};
-ghost use Rattle.sets.specs.Order.{setAt};
+ghost use Rattle.revolving.specs.Order.{setAt};
 ghost use Rattle.records.specs.Layout.{wireCount};
 ghost use Rattle.verdict.specs.Search.{searched, isBreaking, FirstSet, FirstRank};
 use counts::count;
 use records::layout::RECORD_BYTES;
 use records::sums;
-use sets::order;
+use revolving::unrank;
 use wires::Notion;
 
 // Writes the set at a rank to the start of `probes`, and tells whether it breaks the notion.
@@ -28,7 +28,7 @@ fn rank_breaks(
     ensures { λ r. ⌜ r ≡ isBreaking notion (now (table .entry)) 8 64 (setAt wires size rank) ⌝ }
     ensures { λ r. ⌜ now (probes .exit) ≡ setAt wires size rank ++ drop size (now (probes .entry)) ⌝ }
 {
-    order::unrank(counts, wires, size, rank, probes);
+    unrank(counts, wires, size, rank, probes);
     sums::set_breaks(table, notion, &probes[0..size])
 }
 

@@ -4,6 +4,8 @@ use native.Mathlib.Numerals.{add-one}
 use native.Mathlib.Omega.{arith}
 use borrow.Author.Tests.{lt-ltb, le-ltb, le-leb, lt-leb, eq-eqb, ne-eqb}
 use borrow.Author.Needs.{needs}
+use Rattle.limits.specs.Limits.{maxWires, maxSize}
+use Rattle.sets.specs.Answers.{maxJobs}
 use Rattle.sets.proofs.job.Statement.{statement}
 use Rattle.sets.proofs.job.Tie as tie
 
@@ -11,31 +13,31 @@ returns : tie.Need-returns
 returns c =
     let a = c .before .args in
     simp
-    (lt-ltb 512 (a .wires) (omega arith))
+    (lt-ltb maxWires (a .wires) (omega arith))
 
 returns-2 : tie.Need-returns-2
 returns-2 c =
     let a = c .before .before .args in
     simp
-    (le-ltb 512 (a .wires) (omega arith), lt-ltb 7 (a .size) (omega arith))
+    (le-ltb maxWires (a .wires) (omega arith), lt-ltb maxSize (a .size) (omega arith))
 
 returns-3 : tie.Need-returns-3
 returns-3 c =
     let a = c .before .before .before .args in
     simp
-    (le-ltb 512 (a .wires) (omega arith), le-ltb 7 (a .size) (omega arith), eq-eqb (a .jobs) 0 (omega arith))
+    (le-ltb maxWires (a .wires) (omega arith), le-ltb maxSize (a .size) (omega arith), eq-eqb (a .jobs) 0 (omega arith))
 
 returns-4 : tie.Need-returns-4
 returns-4 c =
     let a = c .before .before .before .before .args in
     simp
-    (le-ltb 512 (a .wires) (omega arith), le-ltb 7 (a .size) (omega arith), ne-eqb (a .jobs) 0 (omega arith), lt-ltb 65536 (a .jobs) (omega arith))
+    (le-ltb maxWires (a .wires) (omega arith), le-ltb maxSize (a .size) (omega arith), ne-eqb (a .jobs) 0 (omega arith), lt-ltb maxJobs (a .jobs) (omega arith))
 
 returns-5 : tie.Need-returns-5
 returns-5 c =
     let a = c .before .before .before .before .before .args in
     simp
-    (le-ltb 512 (a .wires) (omega arith), le-ltb 7 (a .size) (omega arith), ne-eqb (a .jobs) 0 (omega arith), le-ltb 65536 (a .jobs) (omega arith), le-leb (a .jobs) (a .job) (omega arith))
+    (le-ltb maxWires (a .wires) (omega arith), le-ltb maxSize (a .size) (omega arith), ne-eqb (a .jobs) 0 (omega arith), le-ltb maxJobs (a .jobs) (omega arith), le-leb (a .jobs) (a .job) (omega arith))
 
 table-requires : tie.Need-table-requires
 table-requires c κs = search needs
@@ -57,7 +59,7 @@ returns-6 c =
     let p = c .before .before .before .before .before in
     let a = p .before .before .before .before .before .args in
     simp
-    (le-ltb 512 (a .wires) (omega (arith, p)), le-ltb 7 (a .size) (omega (arith, p)), ne-eqb (a .jobs) 0 (omega (arith, p)), le-ltb 65536 (a .jobs) (omega (arith, p)), lt-leb (a .jobs) (a .job) (omega (arith, p)), c .before .first-rank .ensures, c .first-rank2 .ensures, c .before .before .count .ensures, add-one)
+    (le-ltb maxWires (a .wires) (omega (arith, p)), le-ltb maxSize (a .size) (omega (arith, p)), ne-eqb (a .jobs) 0 (omega (arith, p)), le-ltb maxJobs (a .jobs) (omega (arith, p)), lt-leb (a .jobs) (a .job) (omega (arith, p)), c .before .first-rank .ensures, c .first-rank2 .ensures, c .before .before .count .ensures, add-one)
 
 pub job-spec : {M : Type 1} → statement M
 job-spec =

@@ -3,6 +3,7 @@
 use native.Mathlib.Omega.{arith}
 use lib.ListN.{length}
 use denote.Ref.{now}
+use Rattle.limits.specs.Limits.{maxWires, maxSize}
 use Rattle.counts.specs.Counts.{binom}
 use borrow.Author.Tests.{lt-ltb, le-ltb, le-leb, lt-leb}
 use borrow.Author.Needs.{needs}
@@ -13,13 +14,13 @@ returns : tie.Need-returns
 returns c =
     let a = c .before .before .args in
     simp
-    (lt-ltb 512 (a .wires) (omega arith))
+    (lt-ltb maxWires (a .wires) (omega arith))
 
 returns-2 : tie.Need-returns-2
 returns-2 c =
     let a = c .before .before .before .args in
     simp
-    (le-ltb 512 (a .wires) (omega arith), lt-ltb 7 (a .size) (omega arith))
+    (le-ltb maxWires (a .wires) (omega arith), lt-ltb maxSize (a .size) (omega arith))
 
 table-requires : tie.Need-table-requires
 table-requires c κs = search needs
@@ -31,14 +32,14 @@ returns-3 : tie.Need-returns-3
 returns-3 c =
     let a = c .before .before .before .before .before .before .before .args in
     simp
-    (le-ltb 512 (a .wires) (omega arith), le-ltb 7 (a .size) (omega arith), lt-ltb (length (now (a .set))) (a .size) (omega arith))
+    (le-ltb maxWires (a .wires) (omega arith), le-ltb maxSize (a .size) (omega arith), lt-ltb (length (now (a .set))) (a .size) (omega arith))
 
 returns-4 : tie.Need-returns-4
 returns-4 c =
     let a = c .before .before .before .before .before .before .before .before .args in
     let count = c .before .before .count .ensures in
     simp
-    (le-ltb 512 (a .wires) (omega arith), le-ltb 7 (a .size) (omega arith), le-ltb (length (now (a .set))) (a .size) (omega arith), le-leb (binom (a .wires) (a .size)) (a .rank) (omega (arith, count)))
+    (le-ltb maxWires (a .wires) (omega arith), le-ltb maxSize (a .size) (omega arith), le-ltb (length (now (a .set))) (a .size) (omega arith), le-leb (binom (a .wires) (a .size)) (a .rank) (omega (arith, count)))
 
 unrank-requires : tie.Need-unrank-requires
 unrank-requires c κs = search needs
@@ -52,7 +53,7 @@ returns-5 c =
     let a = q .before .before .before .before .before .before .before .before .args in
     let count = q .before .before .count .ensures in
     simp
-    (le-ltb 512 (a .wires) (omega arith), le-ltb 7 (a .size) (omega (arith, q)), le-ltb (length (now (a .set))) (a .size) (omega (arith, q)), lt-leb (binom (a .wires) (a .size)) (a .rank) (omega (arith, q .if4 .left, count)), c .before .before .unrank .ensures)
+    (le-ltb maxWires (a .wires) (omega arith), le-ltb maxSize (a .size) (omega (arith, q)), le-ltb (length (now (a .set))) (a .size) (omega (arith, q)), lt-leb (binom (a .wires) (a .size)) (a .rank) (omega (arith, q .if4 .left, count)), c .before .before .unrank .ensures)
 
 pub set-from-rank-spec : {M : Type 1} → statement M
 set-from-rank-spec =

@@ -1,13 +1,13 @@
--- `sets::order::rank` meets its contract: before each turn r is the rank of the first i wires. Assumes nothing.
+-- `revolving::rank` meets its contract: before each turn r is the rank of the first i wires. Assumes nothing.
 use Prim.Native.Nat.{ℕ, _≤_, _-_}
 use native.Mathlib.Omega.{arith}
 use mathlib.Core.Path.{_≡_, subst}
 use lib.ListN.{length}
 use denote.Ref.{now}
 use borrow.Author.Needs.{needs}
-use Rattle.sets.proofs.Unranking.{Ranked, wire-inside, ranked-none, ranked-fits, ranked-next, ranked-all}
-use Rattle.sets.proofs.order.rank.Statement.{statement}
-use Rattle.sets.proofs.order.rank.Tie as tie
+use Rattle.revolving.proofs.Unranking.{Ranked, wire-inside, ranked-none, ranked-fits, ranked-next, ranked-all}
+use Rattle.revolving.proofs.rank.Statement.{statement}
+use Rattle.revolving.proofs.rank.Tie as tie
 
 abbrev Inv-loop : tie.InvT-loop
 Inv-loop table n set r₀ i₀ r i = (i ≤ length set) × Ranked set i r

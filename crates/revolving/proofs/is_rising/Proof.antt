@@ -1,4 +1,4 @@
--- `sets::order::is_rising` meets its contract: the test of the whole list is, before each turn, that of the wires from place i on,
+-- `revolving::is_rising` meets its contract: the test of the whole list is, before each turn, that of the wires from place i on,
 -- of which the first may be no lower than `next`. Assumes nothing.
 use Prim.Native.Nat.{_≤_, _-_}
 use native.Mathlib.Omega.{arith}
@@ -7,10 +7,10 @@ use mathlib.Core.Bool.{_&&_}
 use lib.ListN.{length, drop}
 use denote.Ref.{now}
 use borrow.Author.Needs.{needs}
-use Rattle.sets.specs.Order.{rising, below}
-use Rattle.sets.proofs.Rising.{chosen, rising-chosen, loop-low, loop-high, loop-next, loop-end}
-use Rattle.sets.proofs.order.is_rising.Statement.{statement}
-use Rattle.sets.proofs.order.is_rising.Tie as tie
+use Rattle.revolving.specs.Order.{rising, below}
+use Rattle.revolving.proofs.Rising.{chosen, rising-chosen, loop-low, loop-high, loop-next, loop-end}
+use Rattle.revolving.proofs.is_rising.Statement.{statement}
+use Rattle.revolving.proofs.is_rising.Tie as tie
 
 abbrev Inv-loop : tie.InvT-loop
 Inv-loop n set next₀ i₀ next i = (i ≤ length set) × (next ≤ 65536) × ((rising set && below n set) ≡ chosen next n (drop i set))

@@ -21,9 +21,9 @@ use Rattle.basics.specs.Folds.{oneIf}
 use Rattle.counts.specs.Counts.{binom}
 use Rattle.counts.proofs.Lists.{getD-second}
 use Rattle.counts.proofs.Binomial.{binom-zero, binom-none, binom-suc, binom-wider}
-use Rattle.sets.specs.Order.{revolving, setAt, rising, below, isSet, rankOf, placeOf, timesIn}
-use Rattle.sets.proofs.Lists.{getD-map, getD-reverse, ends-or-empty, times-append, times-reverse, times-snoc, times-empty, times-at, place-in, place-at}
-use Rattle.sets.proofs.Rising.{isSet-snoc, isSet-parts}
+use Rattle.revolving.specs.Order.{revolving, setAt, rising, below, isSet, rankOf, placeOf, timesIn}
+use Rattle.revolving.proofs.Lists.{getD-map, getD-reverse, ends-or-empty, times-append, times-reverse, times-snoc, times-empty, times-at, place-in, place-at}
+use Rattle.revolving.proofs.Rising.{isSet-snoc, isSet-parts}
 
 -- the sets with wire n
 abbrev pub withLast : ℕ → List (List ℕ) → List (List ℕ)

@@ -5,14 +5,16 @@ ghost use mathlib.Core.Bool.{true, _&&_};
 ghost use mathlib.Core.List.{_++_};
 ghost use Prim.Native.Nat.{_+_, _≤_, _<_};
 ghost use lib.ListN.{length, drop};
+ghost use Rattle.limits.specs.Limits.{maxWires, maxSize};
 ghost use Rattle.counts.specs.Counts.{binom, Counts};
-ghost use Rattle.sets.specs.Order.{setAt, rankOf, rising, below};
+ghost use Rattle.revolving.specs.Order.{setAt, rankOf, rising, below};
 use counts::count;
+use limits::COUNTS;
 
 // The highest wire of the set at rank r: the sets of k out of as many wires stand before r, those out of one more go past it.
-fn top_wire(table: &[u64; 4104], n: usize, k: usize, r: u64) -> usize
+fn top_wire(table: &[u64; COUNTS], n: usize, k: usize, r: u64) -> usize
     requires { ⌜ Counts (now table) ⌝ }
-    requires { ⌜ (n ≤ 512) × (k ≤ 7) × (0 < k) × (r < binom n k) ⌝ }
+    requires { ⌜ (n ≤ maxWires) × (k ≤ maxSize) × (0 < k) × (r < binom n k) ⌝ }
     ensures { λ wire. ⌜ (wire < n) × (binom wire k ≤ r) × (r < binom (wire + 1) k) ⌝ }
 {
     let mut low = 0;
@@ -30,9 +32,9 @@ fn top_wire(table: &[u64; 4104], n: usize, k: usize, r: u64) -> usize
 
 // Writes the set at a rank, rising, at the start of `set`, and nothing past it. The highest wire comes first: below it
 // stand the sets of one wire less, in reverse.
-pub fn unrank(table: &[u64; 4104], wires: usize, size: usize, rank: u64, set: &mut [u16])
+pub fn unrank(table: &[u64; COUNTS], wires: usize, size: usize, rank: u64, set: &mut [u16])
     requires { ⌜ Counts (now table) ⌝ }
-    requires { ⌜ (wires ≤ 512) × (size ≤ 7) × (size ≤ length (now set)) × (rank < binom wires size) ⌝ }
+    requires { ⌜ (wires ≤ maxWires) × (size ≤ maxSize) × (size ≤ length (now set)) × (rank < binom wires size) ⌝ }
     ensures { λ _. ⌜ now (set .exit) ≡ setAt wires size rank ++ drop size (now (set .entry)) ⌝ }
 {
     let mut n = wires;
@@ -69,9 +71,9 @@ pub fn is_rising(n: usize, set: &[u16]) -> bool
 }
 
 // The rank of a set of n wires, worked out from its lowest wire up.
-pub fn rank(table: &[u64; 4104], n: usize, set: &[u16]) -> u64
+pub fn rank(table: &[u64; COUNTS], n: usize, set: &[u16]) -> u64
     requires { ⌜ Counts (now table) ⌝ }
-    requires { ⌜ (n ≤ 512) × (length (now set) ≤ 7) × ((rising (now set) && below n (now set)) ≡ true) ⌝ }
+    requires { ⌜ (n ≤ maxWires) × (length (now set) ≤ maxSize) × ((rising (now set) && below n (now set)) ≡ true) ⌝ }
     ensures { λ r. ⌜ r ≡ rankOf n (now (set .entry)) ⌝ }
 {
     let mut r = 0;

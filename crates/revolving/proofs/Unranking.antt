@@ -14,9 +14,9 @@ use lib.ListN.{length, getD, take, drop, set, length-set}
 use lib.Seq.{drop-cons, take-suc, take-length, getD-set-same, drop-set-lt}
 use Rattle.counts.specs.Counts.{binom}
 use Rattle.counts.proofs.Binomial.{binom-zero, binom-none, binom-suc, binom-wider}
-use Rattle.sets.specs.Order.{setAt, rankOf, rising, below}
-use Rattle.sets.proofs.Rising.{Chosen, chosen-true, chosen-snoc, chosen-take, rising-chosen}
-use Rattle.sets.proofs.Revolving.{set-at-step, rank-unique, set-at-none}
+use Rattle.revolving.specs.Order.{setAt, rankOf, rising, below}
+use Rattle.revolving.proofs.Rising.{Chosen, chosen-true, chosen-snoc, chosen-take, rising-chosen}
+use Rattle.revolving.proofs.Revolving.{set-at-step, rank-unique, set-at-none}
 
 -- no wires have no sets of one wire or more, so there is a wire below n
 pub top-start : (n k r : ℕ) → 0 < k → r < binom n k → (0 < n) × (binom 0 k ≤ r)

@@ -17,7 +17,7 @@ use lib.ListN.{length, getD, length-reverse, List·getD-append}
 use Rattle.basics.specs.Folds.{oneIf}
 use Rattle.basics.proofs.Tests.{and-left, and-right}
 use Rattle.counts.proofs.Lists.{getD-second}
-use Rattle.sets.specs.Order.{same, timesIn, placeOf}
+use Rattle.revolving.specs.Order.{same, timesIn, placeOf}
 
 module _ {A B : Type 0} where
   pub getD-map : (f : A → B) (l : List A) (i : ℕ) (d : A) (e : B) → i < length l → getD (map f l) i e ≡ f (getD l i d)

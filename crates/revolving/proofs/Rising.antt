@@ -18,7 +18,7 @@ use borrow.Author.Tests.{lt-ltb, le-leb, ltb-true, leb-true, eqb-true, eq-eqb, l
 use lib.Dec.{ltb, leb, eqb, eqb·suc-suc}
 use lib.ListN.{length, getD, take, drop, length-append, drop-of-length-le}
 use lib.Seq.{drop-cons}
-use Rattle.sets.specs.Order.{rising, below, isSet}
+use Rattle.revolving.specs.Order.{rising, below, isSet}
 use Rattle.basics.proofs.Tests.{and-left, and-right, bool-ext}
 
 abbrev pub chosen : ℕ → ℕ → List ℕ → Bool

@@ -1,11 +1,11 @@
--- `sets::order::top_wire` meets its contract: the count at `low` is at most the rank and that at `high` above it, until the two are neighbours.
+-- `revolving::top_wire` meets its contract: the count at `low` is at most the rank and that at `high` above it, until the two are neighbours.
 -- Assumes nothing.
 use Prim.Native.Nat.{_≤_, _<_, _-_}
 use borrow.Author.Needs.{needs}
 use Rattle.counts.specs.Counts.{binom}
-use Rattle.sets.proofs.Unranking.{top-start, top-found}
-use Rattle.sets.proofs.order.top_wire.Statement.{statement}
-use Rattle.sets.proofs.order.top_wire.Tie as tie
+use Rattle.revolving.proofs.Unranking.{top-start, top-found}
+use Rattle.revolving.proofs.top_wire.Statement.{statement}
+use Rattle.revolving.proofs.top_wire.Tie as tie
 
 abbrev Inv-loop : tie.InvT-loop
 Inv-loop table n k r low₀ high₀ low high = (low < high) × (high ≤ n) × (binom low k ≤ r) × (r < binom high k)

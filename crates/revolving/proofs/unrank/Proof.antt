@@ -1,4 +1,4 @@
--- `sets::order::unrank` meets its contract: before each turn the set that is left to write, with what the buffer holds past it, is the set
+-- `revolving::unrank` meets its contract: before each turn the set that is left to write, with what the buffer holds past it, is the set
 -- that was asked for with what the buffer held past that. Assumes nothing.
 use Prim.Native.Nat.{_≤_, _<_}
 use native.Mathlib.Omega.{arith}
@@ -6,14 +6,15 @@ use mathlib.Core.Path.{_≡_, refl}
 use mathlib.Core.List.{_++_}
 use lib.ListN.{length, drop, length-set}
 use borrow.Author.Needs.{needs}
+use Rattle.limits.specs.Limits.{maxWires}
 use Rattle.counts.specs.Counts.{binom}
-use Rattle.sets.specs.Order.{setAt}
-use Rattle.sets.proofs.Unranking.{unrank-next, unrank-step, unrank-end}
-use Rattle.sets.proofs.order.unrank.Statement.{statement}
-use Rattle.sets.proofs.order.unrank.Tie as tie
+use Rattle.revolving.specs.Order.{setAt}
+use Rattle.revolving.proofs.Unranking.{unrank-next, unrank-step, unrank-end}
+use Rattle.revolving.proofs.unrank.Statement.{statement}
+use Rattle.revolving.proofs.unrank.Tie as tie
 
 abbrev Inv-loop : tie.InvT-loop
-Inv-loop table wires size rank set₀ n₀ left₀ r₀ set n left r = (n ≤ 512) × (left ≤ size) × (length set ≡ length set₀) × (r < binom n left) × (setAt wires size rank ++ drop size set₀ ≡ setAt n left r ++ drop left set)
+Inv-loop table wires size rank set₀ n₀ left₀ r₀ set n left r = (n ≤ maxWires) × (left ≤ size) × (length set ≡ length set₀) × (r < binom n left) × (setAt wires size rank ++ drop size set₀ ≡ setAt n left r ++ drop left set)
 
 abbrev μ-loop : tie.MeasureT-loop
 μ-loop table wires size rank set₀ n₀ left₀ r₀ set n left r = left
