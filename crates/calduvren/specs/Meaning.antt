@@ -26,7 +26,7 @@ use Rattle.revolving.specs.Order.{setAt, rankOf}
 use Rattle.sets.specs.Division.{start}
 use Rattle.table.specs.Answers.{tableCheck}
 use Rattle.verdict.specs.Answers.{notionOf}
-use Rattle.verdict.specs.Search.{isBreaking}
+use Rattle.search.specs.Search.{isBreaking}
 use Rattle.verdict.specs.Guarantee.{Watched, HasChoice, Shown}
 use Rattle.verdict.specs.First.{FirstBreaking, FirstInRange}
 use Rattle.description.specs.Grammar.{Description, Spells}

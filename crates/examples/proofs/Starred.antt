@@ -24,7 +24,7 @@ use Rattle.sets.proofs.Examples.{rank-one-of-pairs}
 use Rattle.description.specs.Header.{orderLine, masksLine, namesFrom}
 use Rattle.description.specs.Listing.{encode}
 use Rattle.description.specs.Run.{run}
-use Rattle.verdict.specs.Search.{searched, isBreaking}
+use Rattle.search.specs.Search.{searched, isBreaking}
 use Rattle.pages.specs.Decimal.{decimal}
 use Rattle.report_text.specs.Report.{functionLine, notionLine, checked, report}
 use Rattle.examples.specs.Starred.{Case, AllHold, starred, AlsoInGeneral}

@@ -24,7 +24,7 @@ use Rattle.counts.specs.Counts.{binom}
 use Rattle.wires.specs.declared.Notion.{Notion}
 use Rattle.sets.specs.Answers.{setCount, setFromRank, rankFromSet, jobRanks}
 use Rattle.sets.specs.Visits.{SetTells}
-use Rattle.verdict.specs.Search.{isBreaking}
+use Rattle.search.specs.Search.{isBreaking}
 use Rattle.verdict.specs.Answers.{rangeCheck}
 use Rattle.reader.specs.Answers.{ReadTold, gives, refused, readText}
 use Rattle.report_text.specs.Report.{emptyTable, emptySet, maxReport, reportText}

@@ -40,7 +40,7 @@ use Rattle.records.specs.Layout.{wireAt, wireCount, wires}
 use Rattle.revolving.specs.Order.{rankOf}
 use Rattle.table.specs.Answers.{maxTableBytes, tableCheck, functionCheck}
 use Rattle.table.proofs.Entries.{accepted, accepted-exactly, tested-answer}
-use Rattle.verdict.specs.Search.{searched, isBreaking}
+use Rattle.search.specs.Search.{searched, isBreaking}
 use Rattle.verdict.specs.Answers.{notionOf, written, firstShown, verdictOf}
 use Rattle.verdict.specs.Guarantee.{Watched, HasChoice}
 use Rattle.verdict.specs.First.{NotAfter, FirstBreaking}

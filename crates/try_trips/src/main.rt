@@ -5,6 +5,7 @@ const TRIPS: u64 = 100000;
 ghost use Prim.Native.Nat.{_≤_, _<_};
 ghost use mathlib.Core.Path.{_≡_};
 ghost use Rattle.counts.specs.Counts.{binom, Counts};
+use limits::COUNTS;
 
 const WIRES: usize = 512;
 
@@ -20,7 +21,7 @@ fn main() {
 }
 
 // How many of the trips come back to their rank.
-fn trips(table: &[u64; 4104], all: u64) -> u64
+fn trips(table: &[u64; COUNTS], all: u64) -> u64
     requires { ⌜ Counts (now table) ⌝ }
     requires { ⌜ (0 < all) × (all ≡ binom 512 7) ⌝ }
 {
@@ -35,7 +36,7 @@ fn trips(table: &[u64; 4104], all: u64) -> u64
 }
 
 // 1 where the set at the rank has that rank.
-fn there_and_back(table: &[u64; 4104], rank: u64) -> u64
+fn there_and_back(table: &[u64; COUNTS], rank: u64) -> u64
     requires { ⌜ Counts (now table) ⌝ }
     requires { ⌜ rank < binom 512 7 ⌝ }
     ensures { λ r. ⌜ r ≤ 1 ⌝ }

@@ -27,7 +27,7 @@ use Rattle.counts.specs.Counts.{binom}
 use Rattle.revolving.specs.Order.{rankOf}
 use Rattle.verdict.specs.declared.VerdictAnswer.{VerdictAnswer}
 use Rattle.verdict.specs.declared.RangeAnswer.{RangeAnswer}
-use Rattle.verdict.specs.Search.{searched, stretch, isBreaking}
+use Rattle.search.specs.Search.{searched, stretch, isBreaking}
 use Rattle.verdict.specs.Answers.{verdictTold, rangeTold, wrongNotion, wrongOrder, notionOf, written, firstShown, firstRanked, verdictOf, rangeCheck}
 use Rattle.verdict.specs.Jobs.{found, broken, Ordered, Asked}
 use Rattle.verdict.proofs.Admitting.{opened-passed, opened-kept}

@@ -14,6 +14,7 @@ use borrow.Author.Tests.{le-leb, lt-leb, le-ltb, lt-ltb, ltb-false}
 use lib.Dec.{ltb, leb, eqb}
 use lib.ListN.{length, take, drop}
 use lib.Seq.{take-at}
+use Rattle.limits.specs.Limits.{maxShares, maxMasks, recordBytes, maxTableBytes, maxSize}
 use Rattle.basics.specs.Folds.{keep}
 use Rattle.basics.specs.Told.{Lent, values, turnedDown}
 use Rattle.basics.proofs.Tests.{or-none}
@@ -27,11 +28,11 @@ use Rattle.verdict.specs.declared.Refusal.{Refusal}
 use Rattle.verdict.specs.declared.Refusal.the-variants.{OrderOutOfRange, BufferTooShort}
 use Rattle.verdict.specs.declared.Opened.{Opened}
 use Rattle.verdict.specs.declared.VerdictAnswer.{VerdictAnswer}
-use Rattle.verdict.specs.Search.{searched, stretch, isBreaking, first, FirstSet}
+use Rattle.search.specs.Search.{searched, stretch, isBreaking, first, FirstSet}
 use Rattle.verdict.specs.Answers.{refusalNumber, verdictTold, wrongNotion, wrongOrder, notionOf, openedTold, opens, written, firstShown, verdictOf}
 use Rattle.verdict.specs.Guarantee.{Guarantee}
-use Rattle.verdict.proofs.Keeping.{each-place, each-take, each-drop, keep-same}
-use Rattle.verdict.proofs.Turns.{set-inside}
+use Rattle.search.proofs.Keeping.{each-place, each-take, each-drop, keep-same}
+use Rattle.search.proofs.Turns.{set-inside}
 use Rattle.verdict.proofs.Admitting.{Opens, opens-notion, opened-answer, opened-refusal}
 use Rattle.verdict.proofs.Watching.{each-searched, shown-none, holds, broken, refused}
 
@@ -39,7 +40,7 @@ use Rattle.verdict.proofs.Watching.{each-searched, shown-none, holds, b
 
 module _ (table : List ℕ) (shares masks notion : ℕ) (kind : Notion) (o : Opens table shares masks notion kind) where
   abbrev wide : List ℕ → Bool
-  wide = isBreaking kind table 8 64
+  wide = isBreaking kind table maxShares maxMasks
 
   abbrev own : List ℕ → Bool
   own = isBreaking (notionOf notion) table shares masks
@@ -70,8 +71,8 @@ module _ (table : List ℕ) (shares masks notion : ℕ) (kind : Notion) (told : 
   pub opened-for : Opens table shares masks notion kind
   opened-for = opens-notion table shares masks notion kind told
 
-  pub short : length table ≤ 12288
-  short = ltb-false 12288 (length table) (or-none (not (eqb (length table % 24) 0)) (ltb 12288 (length table)) (opened-for .sound .goodLength) .1)
+  pub short : length table ≤ maxTableBytes
+  short = ltb-false maxTableBytes (length table) (or-none (not (eqb (length table % recordBytes) 0)) (ltb maxTableBytes (length table)) (opened-for .sound .goodLength) .1)
 
 -- ---- the verdict
 
@@ -131,17 +132,17 @@ pub record Passed (table : List ℕ) (shares masks notion order : ℕ) (buffer :
 
 module _ (table : List ℕ) (shares masks notion order : ℕ) (buffer : List ℕ) (kind : Notion)
     (p : Passed table shares masks notion order buffer kind) where
-  pub bytes : length table ≤ 12288
+  pub bytes : length table ≤ maxTableBytes
   bytes = short table shares masks notion kind (p .told)
 
-  pub seven : order ≤ 7
-  seven = omega (arith, p .high, shares-high table shares masks (opened-for table shares masks notion kind (p .told) .sound))
+  pub order-small : order ≤ maxSize
+  order-small = omega (arith, p .high, shares-high table shares masks (opened-for table shares masks notion kind (p .told) .sound))
 
-  module _ (size : ℕ) (probes : List ℕ) (search : FirstSet (isBreaking kind table 8 64) (searched (wireCount table) order) size probes) where
+  module _ (size : ℕ) (probes : List ℕ) (search : FirstSet (isBreaking kind table maxShares maxMasks) (searched (wireCount table) order) size probes) where
     abbrev sets : List (List ℕ)
     sets = keep (isBreaking (notionOf notion) table shares masks) (searched (wireCount table) order)
 
-    same : keep (isBreaking kind table 8 64) (searched (wireCount table) order) ≡ sets
+    same : keep (isBreaking kind table maxShares maxMasks) (searched (wireCount table) order) ≡ sets
     same = searched-decided table shares masks notion kind (opened-for table shares masks notion kind (p .told)) order
 
     shows : firstShown sets buffer ≡ verdictOf table shares masks notion order buffer

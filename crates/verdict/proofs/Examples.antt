@@ -30,7 +30,7 @@ use Rattle.verdict.specs.declared.Refusal.{Refusal}
 use Rattle.verdict.specs.declared.Refusal.the-variants.{Table, NoSuchNotion, OrderOutOfRange, BufferTooShort, SizeTooLarge, RanksOutOfRange}
 use Rattle.verdict.specs.declared.RangeAnswer.{RangeAnswer}
 use Rattle.verdict.specs.declared.VerdictAnswer.{VerdictAnswer}
-use Rattle.verdict.specs.Search.{searched, isBreaking}
+use Rattle.search.specs.Search.{searched, isBreaking}
 use Rattle.verdict.specs.Answers.{refusalNumber, verdictTold, rangeTold, verdictOf, rangeCheck}
 use Rattle.verdict.specs.First.{NotAfter, VerdictFinds, RangeFinds}
 use Rattle.verdict.specs.Guarantee.{Guarantee}

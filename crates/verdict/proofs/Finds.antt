@@ -15,7 +15,7 @@ use Rattle.revolving.proofs.Rising.{isSet-parts}
 use Rattle.revolving.proofs.Revolving.{set-at-is-set}
 use Rattle.verdict.specs.declared.VerdictAnswer.{VerdictAnswer}
 use Rattle.verdict.specs.declared.RangeAnswer.{RangeAnswer}
-use Rattle.verdict.specs.Search.{searched, stretch, isBreaking}
+use Rattle.search.specs.Search.{searched, stretch, isBreaking}
 use Rattle.verdict.specs.Answers.{refusalNumber, verdictTold, rangeTold, notionOf, firstShown, firstRanked, verdictOf, rangeCheck}
 use Rattle.verdict.specs.First.{FirstBreaking, FirstInRange, VerdictFinds, RangeFinds}
 use Rattle.verdict.specs.Jobs.{found, broken, Ordered, Asked}

@@ -29,12 +29,12 @@ use Rattle.revolving.proofs.Revolving.{revolving-length, set-at-is-set}
 use Rattle.sets.specs.Division.{start, visited, joined}
 use Rattle.sets.proofs.Division.{start-rises, start-within, jobs-joined}
 use Rattle.sets.proofs.Entries.{job-told}
-use Rattle.verdict.specs.Search.{searched, isBreaking}
+use Rattle.search.specs.Search.{searched, isBreaking}
 use Rattle.verdict.specs.Answers.{notionOf, firstShown, firstRanked, verdictOf, rangeCheck}
 use Rattle.verdict.specs.Jobs.{nothing, found, broken, Ordered, Asked, Divided, JobAnswers, AllClean, CleanBelow, FirstFound}
-use Rattle.verdict.proofs.Keeping.{each-place, keep-none, none-keep}
+use Rattle.search.proofs.Keeping.{each-place, keep-none, none-keep}
 use Rattle.verdict.proofs.Accepting.{verdict-answered, range-answered, shown-nil, ranked-nil, ranked-set}
-use Rattle.verdict.proofs.Turns.{first-of-size}
+use Rattle.search.proofs.Turns.{first-of-size}
 use Rattle.verdict.proofs.Watching.{of-size, each-size, each-searched}
 
 -- ---- lists joined

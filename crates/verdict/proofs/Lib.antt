@@ -1,6 +1,4 @@
 -- The theorems on verdicts.
---     Keeping     the elements of a list that pass a test, and the first of them
---     Turns       the turns of the search's loops
 --     Admitting   the tests that both entries begin with
 --     Writing     a set copied to the start of a buffer
 --     Watching    demand 3
@@ -11,8 +9,6 @@
 --     Finds       demand 2 on the answers themselves
 --     Jobs        a search that is divided over machines
 --     Examples    the scope's texts, limits, and what demand 3 alone turns away
-pub mod Keeping
-pub mod Turns
 pub mod Admitting
 pub mod Writing
 pub mod Watching

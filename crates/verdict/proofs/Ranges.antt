@@ -11,6 +11,7 @@ use mathlib.Core.List.{List, [], _∷_}
 use borrow.Author.Tests.{le-leb, lt-leb, le-ltb, lt-ltb}
 use lib.Dec.{ltb, leb}
 use lib.ListN.{length, take}
+use Rattle.limits.specs.Limits.{maxShares, maxMasks, maxTableBytes, maxSize}
 use Rattle.basics.specs.Folds.{keep}
 use Rattle.basics.specs.Told.{Lent, values, refusal, turnedDown}
 use Rattle.wires.specs.declared.Notion.{Notion}
@@ -22,9 +23,9 @@ use Rattle.revolving.proofs.Rising.{isSet-parts}
 use Rattle.revolving.proofs.Revolving.{set-at-is-set, rank-of-set}
 use Rattle.verdict.specs.declared.Opened.{Opened}
 use Rattle.verdict.specs.declared.RangeAnswer.{RangeAnswer}
-use Rattle.verdict.specs.Search.{stretch, isBreaking, first, FirstRank}
+use Rattle.search.specs.Search.{stretch, isBreaking, first, FirstRank}
 use Rattle.verdict.specs.Answers.{rangeTold, wrongNotion, notionOf, openedTold, opens, written, firstRanked, rangeCheck}
-use Rattle.verdict.proofs.Turns.{rank-first}
+use Rattle.search.proofs.Turns.{rank-first}
 use Rattle.verdict.proofs.Admitting.{opened-answer, opened-refusal}
 use Rattle.verdict.proofs.Entries.{stretch-decided, opened-for, short}
 
@@ -34,19 +35,19 @@ module _ (table : List ℕ) (shares masks notion size from to : ℕ) (buffer : L
 
   abbrev pub range-answer : Lent
   range-answer =
-      cond (ltb 7 size) (turnedDown 17 buffer)
+      cond (ltb maxSize size) (turnedDown 17 buffer)
       (cond (ltb (length buffer) size) (turnedDown 16 buffer)
       (cond (not (leb from to && leb to all)) (turnedDown 18 buffer)
       (firstRanked (wireCount table) (keep (isBreaking (notionOf notion) table shares masks) (stretch (wireCount table) size from to)) buffer)))
 
   -- where all tests pass the first breaking set decides
-  pub range-accepted : Accepted table shares masks → wrongNotion notion ≡ false → size ≤ 7 → size ≤ length buffer → from ≤ to → to ≤ all
+  pub range-accepted : Accepted table shares masks → wrongNotion notion ≡ false → size ≤ maxSize → size ≤ length buffer → from ≤ to → to ≤ all
       → rangeCheck table shares masks notion size from to buffer
       ≡ firstRanked (wireCount table) (keep (isBreaking (notionOf notion) table shares masks) (stretch (wireCount table) size from to)) buffer
   range-accepted sound known small room rises ends =
       let shows : range-answer
       ≡ firstRanked (wireCount table) (keep (isBreaking (notionOf notion) table shares masks) (stretch (wireCount table) size from to)) buffer =
-      simp (le-ltb 7 size small, le-ltb (length buffer) size room, le-leb from to rises, le-leb to all ends) in
+      simp (le-ltb maxSize size small, le-ltb (length buffer) size room, le-leb from to rises, le-leb to all ends) in
       opened-answer table shares masks notion (λ number. turnedDown number buffer) range-answer sound known ∙ shows
 
   -- what the entry is to tell
@@ -62,47 +63,47 @@ module _ (table : List ℕ) (shares masks notion size from to : ℕ) (buffer : L
         let o = opened-for table shares masks notion kind told in
         sym (opened-answer table shares masks notion (λ number. turnedDown number buffer) range-answer (o .sound) (o .known))
 
-    pub size-large : 7 < size → turnedDown 17 buffer ≡ asked
-    size-large h = let e : turnedDown 17 buffer ≡ range-answer = simp (lt-ltb 7 size h) in e ∙ own-range
+    pub size-large : maxSize < size → turnedDown 17 buffer ≡ asked
+    size-large h = let e : turnedDown 17 buffer ≡ range-answer = simp (lt-ltb maxSize size h) in e ∙ own-range
 
-    module _ (small : size ≤ 7) where
+    module _ (small : size ≤ maxSize) where
       pub range-room : length buffer < size → turnedDown 16 buffer ≡ asked
-      range-room h = let e : turnedDown 16 buffer ≡ range-answer = simp (le-ltb 7 size small, lt-ltb (length buffer) size h) in e ∙ own-range
+      range-room h = let e : turnedDown 16 buffer ≡ range-answer = simp (le-ltb maxSize size small, lt-ltb (length buffer) size h) in e ∙ own-range
 
       module _ (room : size ≤ length buffer) where
         pub ranks-low : to < from → turnedDown 18 buffer ≡ asked
         ranks-low h =
-            let e : turnedDown 18 buffer ≡ range-answer = simp (le-ltb 7 size small, le-ltb (length buffer) size room, lt-leb from to h) in e
+            let e : turnedDown 18 buffer ≡ range-answer = simp (le-ltb maxSize size small, le-ltb (length buffer) size room, lt-leb from to h) in e
             ∙ own-range
 
         pub ranks-high : from ≤ to → all < to → turnedDown 18 buffer ≡ asked
         ranks-high rises h =
             let e : turnedDown 18 buffer ≡ range-answer =
-            simp (le-ltb 7 size small, le-ltb (length buffer) size room, le-leb from to rises, lt-leb to all h) in
+            simp (le-ltb maxSize size small, le-ltb (length buffer) size room, le-leb from to rises, lt-leb to all h) in
             e ∙ own-range
 
 -- the tests of a range check that lets the search begin
 pub record PassedRange (table : List ℕ) (shares masks notion size from to : ℕ) (buffer : List ℕ) (kind : Notion) : Type 0 where
   pub told : openedTold (Opened.For kind) ≡ opens table shares masks notion
-  pub small : size ≤ 7
+  pub small : size ≤ maxSize
   pub room : size ≤ length buffer
   pub rises : from ≤ to
   pub ends : to ≤ binom (wireCount table) size
 
 pub range-bytes : (table : List ℕ) (shares masks notion size from to : ℕ) (buffer : List ℕ) (kind : Notion)
-    → PassedRange table shares masks notion size from to buffer kind → length table ≤ 12288
+    → PassedRange table shares masks notion size from to buffer kind → length table ≤ maxTableBytes
 range-bytes table shares masks notion size from to buffer kind p = short table shares masks notion kind (p .told)
 
 module _ (table : List ℕ) (shares masks notion size from to : ℕ) (buffer : List ℕ) (kind : Notion)
     (p : PassedRange table shares masks notion size from to buffer kind) (rank : ℕ) (probes : List ℕ)
-    (search : FirstRank (isBreaking kind table 8 64) (wireCount table) size from to rank probes) where
+    (search : FirstRank (isBreaking kind table maxShares maxMasks) (wireCount table) size from to rank probes) where
   abbrev result : Lent
   result = rangeCheck table shares masks notion size from to buffer
 
   abbrev ranked : List (List ℕ)
   ranked = keep (isBreaking (notionOf notion) table shares masks) (stretch (wireCount table) size from to)
 
-  same-sets : keep (isBreaking kind table 8 64) (stretch (wireCount table) size from to) ≡ ranked
+  same-sets : keep (isBreaking kind table maxShares maxMasks) (stretch (wireCount table) size from to) ≡ ranked
   same-sets = stretch-decided table shares masks notion kind (opened-for table shares masks notion kind (p .told)) size from to
 
   decides : (l : List (List ℕ)) → ranked ≡ l → firstRanked (wireCount table) l buffer ≡ result
@@ -114,7 +115,7 @@ module _ (table : List ℕ) (shares masks notion size from to : ℕ) (buffer : L
   pub range-clean : to ≤ rank → rangeTold RangeAnswer.Clean buffer ≡ result
   range-clean h =
       let last : to ≡ rank = omega (arith, search .high) in
-      decides [] (sym same-sets ∙ ap (λ (k : ℕ). keep (isBreaking kind table 8 64) (stretch (wireCount table) size from k)) last
+      decides [] (sym same-sets ∙ ap (λ (k : ℕ). keep (isBreaking kind table maxShares maxMasks) (stretch (wireCount table) size from k)) last
       ∙ search .clean)
 
   pub range-found : rank < to → (held : List ℕ) → held ≡ written (take (size - 0) probes) buffer
@@ -124,7 +125,7 @@ module _ (table : List ℕ) (shares masks notion size from to : ℕ) (buffer : L
       let set = setAt n size rank in
       let found = search .found h in
       let counted : rank < binom (wireCount table) size = omega (arith, p .ends) in
-      let first = rank-first (isBreaking kind table 8 64) n size from rank to (search .low) h (p .ends) (search .clean) (found .0) in
+      let first = rank-first (isBreaking kind table maxShares maxMasks) n size from rank to (search .low) h (p .ends) (search .clean) (found .0) in
       let all-of-it : size - 0 ≡ size = omega arith in
       let long : size ≡ length set = sym (isSet-parts n size set (set-at-is-set n size rank counted) .0) in
       let copied : held ≡ written set buffer =

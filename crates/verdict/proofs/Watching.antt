@@ -27,11 +27,11 @@ use Rattle.revolving.proofs.Rising.{Chosen, chosen-true, chosen-is, rising-chos
 use Rattle.revolving.proofs.Revolving.{revolving-length, set-at-is-set, set-of-rank}
 use Rattle.verdict.specs.declared.Refusal.{Refusal}
 use Rattle.verdict.specs.declared.VerdictAnswer.{VerdictAnswer}
-use Rattle.verdict.specs.Search.{searched, isBreaking}
+use Rattle.search.specs.Search.{searched, isBreaking}
 use Rattle.verdict.specs.Answers.{notionOf}
 use Rattle.verdict.specs.Guarantee.{Watched, HasChoice, Shown, Guarantee}
-use Rattle.verdict.proofs.Keeping.{Each, each-place, at-place, each-append, each-parts, keep-first, keep-none}
-use Rattle.verdict.proofs.Turns.{searched-none, searched-suc}
+use Rattle.search.proofs.Keeping.{Each, each-place, at-place, each-append, each-parts, keep-first, keep-none}
+use Rattle.search.proofs.Turns.{searched-none, searched-suc}
 
 -- ---- sets to watch
 

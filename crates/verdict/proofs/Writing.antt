@@ -9,7 +9,7 @@ use mathlib.Core.List.{List, _++_}
 use lib.ListN.{length, getD, set, take, drop}
 use lib.Seq.{paste, paste-zero, paste-suc, take-length}
 use Rattle.verdict.specs.Answers.{written}
-use Rattle.verdict.proofs.Keeping.{take-none}
+use Rattle.search.proofs.Keeping.{take-none}
 
 abbrev pub begun : List ℕ → List ℕ → ℕ → List ℕ
 begun found buffer i = paste buffer 0 found i

@@ -15,6 +15,7 @@ use mathlib.Core.Bool.{Bool, cond, not, _&&_, _||_}
 use mathlib.Core.List.{List, [], _∷_, _++_}
 use lib.Dec.{ltb, leb, eqb}
 use lib.ListN.{length, drop}
+use Rattle.limits.specs.Limits.{maxSize}
 use Rattle.basics.specs.Told.{Told, Lent, values, refusal, turnedDown}
 use Rattle.wires.specs.declared.Notion.{Notion}
 use Rattle.wires.specs.declared.Notion.the-variants.{Ni, Sni}
@@ -22,13 +23,12 @@ use Rattle.records.specs.Layout.{wireCount}
 use Rattle.table.specs.Answers as table-answers
 use Rattle.counts.specs.Counts.{binom}
 use Rattle.revolving.specs.Order.{rankOf}
-use Rattle.sets.specs.Answers.{maxSize}
 use Rattle.verdict.specs.declared.Refusal.{Refusal}
 use Rattle.verdict.specs.declared.Refusal.the-variants.{Table, NoSuchNotion, OrderOutOfRange, BufferTooShort, SizeTooLarge, RanksOutOfRange}
 use Rattle.verdict.specs.declared.Opened.{Opened}
 use Rattle.verdict.specs.declared.VerdictAnswer.{VerdictAnswer}
 use Rattle.verdict.specs.declared.RangeAnswer.{RangeAnswer}
-use Rattle.verdict.specs.Search.{searched, stretch, breakingSets}
+use Rattle.search.specs.Search.{searched, stretch, breakingSets}
 
 abbrev pub refusalNumber : Refusal → ℕ
 refusalNumber (Table why) = table-answers.refusalNumber why

@@ -16,7 +16,7 @@ use Rattle.revolving.specs.Order.{setAt, rankOf}
 use Rattle.verdict.specs.declared.Refusal.{Refusal}
 use Rattle.verdict.specs.declared.VerdictAnswer.{VerdictAnswer}
 use Rattle.verdict.specs.declared.RangeAnswer.{RangeAnswer}
-use Rattle.verdict.specs.Search.{isBreaking}
+use Rattle.search.specs.Search.{isBreaking}
 use Rattle.verdict.specs.Answers.{notionOf}
 use Rattle.verdict.specs.Guarantee.{Watched}
 

@@ -12,6 +12,7 @@ use mathlib.Core.Path.{_≡_}
 use mathlib.Core.Bool.{false}
 use mathlib.Core.List.{List, [], _∷_}
 use lib.ListN.{length}
+use Rattle.limits.specs.Limits.{maxSize}
 use Rattle.basics.specs.Told.{Lent, values}
 use Rattle.records.specs.Layout.{wireCount}
 use Rattle.table.specs.Answers.{tableCheck}
@@ -37,7 +38,7 @@ pub record Ordered (table : List ℕ) (shares masks notion order : ℕ) (buffer 
 pub record Asked (table : List ℕ) (shares masks notion size : ℕ) (buffer : List ℕ) : Type 0 where
   pub sound : values [] ≡ tableCheck table shares masks
   pub known : wrongNotion notion ≡ false
-  pub small : size ≤ 7
+  pub small : size ≤ maxSize
   pub room : size ≤ length buffer
 
 pub record Divided (jobs : ℕ) : Type 0 where

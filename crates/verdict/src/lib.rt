@@ -8,13 +8,11 @@ ghost use Rattle.verdict.specs.Answers.{refusalNumber, openedTold, opens
 ghost use Rattle.verdict.specs.First.{VerdictFinds, RangeFinds};
 ghost use Rattle.verdict.specs.Guarantee.{Guarantee};
 use counts::count;
+use limits::MAX_SIZE;
 use records::layout::RECORD_BYTES;
-use sets::MAX_SIZE;
 use table::TableAnswer;
 use table::table_check;
 use wires::Notion;
-
-mod search;
 
 // Why an entry turns its arguments down.
 pub enum Refusal {

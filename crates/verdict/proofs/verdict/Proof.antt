@@ -10,7 +10,7 @@ use Rattle.verdict.specs.declared.VerdictAnswer.{VerdictAnswer}
 use Rattle.verdict.specs.Answers.{openedTold, opens, verdictTold, verdictOf}
 use Rattle.verdict.specs.First.{VerdictFinds}
 use Rattle.verdict.specs.Guarantee.{Guarantee}
-use Rattle.verdict.proofs.Entries.{Promise, Passed, before, order-low, order-high, no-room, found-none, found-set, bytes, seven, size-within}
+use Rattle.verdict.proofs.Entries.{Promise, Passed, before, order-low, order-high, no-room, found-none, found-set, bytes, order-small, size-within}
 use Rattle.verdict.proofs.Finds.{verdict-finds}
 use Rattle.verdict.proofs.verdict.Statement.{statement}
 use Rattle.verdict.proofs.verdict.Tie as tie
@@ -71,7 +71,7 @@ first-breaking-requires : tie.Need-first-breaking-requires
 first-breaking-requires c κs =
     let p = passed (c .before) in
     let most = bytes _ _ _ _ _ _ _ p in
-    let few = seven _ _ _ _ _ _ _ p in
+    let few = order-small _ _ _ _ _ _ _ p in
     search needs
 
 returns-4 : tie.Need-returns-4
@@ -88,14 +88,14 @@ part-write-end : tie.Need-part-write-end
 part-write-end c =
     let p = passed (c .before .before .before .before .before) in
     let most = size-within _ _ _ _ _ _ _ p _ _ (c .before .before .before .first-breaking .ensures) in
-    let few = seven _ _ _ _ _ _ _ p in
+    let few = order-small _ _ _ _ _ _ _ p in
     search needs
 
 write-requires : tie.Need-write-requires
 write-requires c κs =
     let p = passed (c .before .before .before .before .before .before .before) in
     let most = size-within _ _ _ _ _ _ _ p _ _ (c .before .before .before .before .before .first-breaking .ensures) in
-    let few = seven _ _ _ _ _ _ _ p in
+    let few = order-small _ _ _ _ _ _ _ p in
     search needs
 
 returns-5 : tie.Need-returns-5

@@ -1,9 +1,9 @@
--- `verdict::search::rank_breaks` meets its contract: the set that `unrank` wrote is what `set_breaks` looks at.
+-- `search::rank_breaks` meets its contract: the set that `unrank` wrote is what `set_breaks` looks at.
 -- Assumes nothing.
 use borrow.Author.Needs.{needs}
-use Rattle.verdict.proofs.Turns.{looked-inside, looked}
-use Rattle.verdict.proofs.search.rank_breaks.Statement.{statement}
-use Rattle.verdict.proofs.search.rank_breaks.Tie as tie
+use Rattle.search.proofs.Turns.{looked-inside, looked}
+use Rattle.search.proofs.rank_breaks.Statement.{statement}
+use Rattle.search.proofs.rank_breaks.Tie as tie
 
 unrank-requires : tie.Need-unrank-requires
 unrank-requires c κs = search needs

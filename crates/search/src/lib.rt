@@ -1,13 +1,16 @@
-// The search behind the entries. Each set is unranked and its records added up anew; the loops know neither.
+// The search behind verdict and range check: nested loops over size and rank, left by label with the breaking set. Each set is unranked
+// and its records added up anew; the loops know neither. These functions ask what the entries have tested.
 ghost use mathlib.Core.Path.{_≡_};
 ghost use mathlib.Core.List.{_++_};
 ghost use Prim.Native.Nat.{_≤_, _<_};
 ghost use lib.ListN.{length, drop};
+ghost use Rattle.limits.specs.Limits.{maxShares, maxMasks, maxWires, maxTableBytes, maxSize};
 ghost use Rattle.counts.specs.Counts.{binom, Counts};
 ghost use Rattle.revolving.specs.Order.{setAt};
 ghost use Rattle.records.specs.Layout.{wireCount};
-ghost use Rattle.verdict.specs.Search.{searched, isBreaking, FirstSet, FirstRank};
+ghost use Rattle.search.specs.Search.{searched, isBreaking, FirstSet, FirstRank};
 use counts::count;
+use limits::COUNTS;
 use records::layout::RECORD_BYTES;
 use records::sums;
 use revolving::unrank;
@@ -16,7 +19,7 @@ use wires::Notion;
 // Writes the set at a rank to the start of `probes`, and tells whether it breaks the notion.
 fn rank_breaks(
     table: &[u8],
-    counts: &[u64; 4104],
+    counts: &[u64; COUNTS],
     notion: Notion,
     wires: usize,
     size: usize,
@@ -24,8 +27,8 @@ fn rank_breaks(
     probes: &mut [u16],
 ) -> bool
     requires { ⌜ Counts (now counts) ⌝ }
-    requires { ⌜ (wires ≡ wireCount (now table)) × (wires ≤ 512) × (size ≤ 7) × (size ≤ length (now probes)) × (rank < binom wires size) ⌝ }
-    ensures { λ r. ⌜ r ≡ isBreaking notion (now (table .entry)) 8 64 (setAt wires size rank) ⌝ }
+    requires { ⌜ (wires ≡ wireCount (now table)) × (wires ≤ maxWires) × (size ≤ maxSize) × (size ≤ length (now probes)) × (rank < binom wires size) ⌝ }
+    ensures { λ r. ⌜ r ≡ isBreaking notion (now (table .entry)) maxShares maxMasks (setAt wires size rank) ⌝ }
     ensures { λ r. ⌜ now (probes .exit) ≡ setAt wires size rank ++ drop size (now (probes .entry)) ⌝ }
 {
     unrank(counts, wires, size, rank, probes);
@@ -34,8 +37,8 @@ fn rank_breaks(
 
 // The size of the first breaking set in rising size and rank, with the set at the start of `probes`, or 0.
 pub fn first_breaking(table: &[u8], notion: Notion, order: usize, probes: &mut [u16]) -> usize
-    requires { ⌜ (length (now table) ≤ 12288) × (order ≤ 7) × (order ≤ length (now probes)) ⌝ }
-    ensures { λ r. ⌜ FirstSet (isBreaking notion (now (table .entry)) 8 64) (searched (wireCount (now (table .entry))) order) r (now (probes .exit)) ⌝ }
+    requires { ⌜ (length (now table) ≤ maxTableBytes) × (order ≤ maxSize) × (order ≤ length (now probes)) ⌝ }
+    ensures { λ r. ⌜ FirstSet (isBreaking notion (now (table .entry)) maxShares maxMasks) (searched (wireCount (now (table .entry))) order) r (now (probes .exit)) ⌝ }
 {
     let counts = counts::table();
     let wires = table.len() / RECORD_BYTES;
@@ -55,7 +58,7 @@ pub fn first_breaking(table: &[u8], notion: Notion, order: usize, probes: &mut [
 // The first breaking rank from `from` on, with its set at the start of `probes`; `to` where none up to there breaks.
 pub fn first_rank(
     table: &[u8],
-    counts: &[u64; 4104],
+    counts: &[u64; COUNTS],
     notion: Notion,
     size: usize,
     from: u64,
@@ -63,8 +66,8 @@ pub fn first_rank(
     probes: &mut [u16],
 ) -> u64
     requires { ⌜ Counts (now counts) ⌝ }
-    requires { ⌜ (length (now table) ≤ 12288) × (size ≤ 7) × (size ≤ length (now probes)) × (from ≤ to) × (to ≤ binom (wireCount (now table)) size) ⌝ }
-    ensures { λ r. ⌜ FirstRank (isBreaking notion (now (table .entry)) 8 64) (wireCount (now (table .entry))) size from to r (now (probes .exit)) ⌝ }
+    requires { ⌜ (length (now table) ≤ maxTableBytes) × (size ≤ maxSize) × (size ≤ length (now probes)) × (from ≤ to) × (to ≤ binom (wireCount (now table)) size) ⌝ }
+    ensures { λ r. ⌜ FirstRank (isBreaking notion (now (table .entry)) maxShares maxMasks) (wireCount (now (table .entry))) size from to r (now (probes .exit)) ⌝ }
 {
     let wires = table.len() / RECORD_BYTES;
     let mut rank = from;

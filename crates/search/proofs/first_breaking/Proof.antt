@@ -1,26 +1,27 @@
--- `verdict::search::first_breaking` meets its contract: before each turn nothing was found in the sizes and ranks below, and a set that
+-- `search::first_breaking` meets its contract: before each turn nothing was found in the sizes and ranks below, and a set that
 -- breaks is then the first. Assumes nothing.
 use Prim.Native.Nat.{_+_, _-_, _≤_, zero-le}
 use native.Mathlib.Omega.{arith}
 use mathlib.Core.Path.{_≡_, refl, sym, _∙_}
 use lib.ListN.{length}
 use borrow.Author.Needs.{needs}
+use Rattle.limits.specs.Limits.{maxShares, maxMasks}
 use Rattle.records.specs.Layout.{wireCount}
-use Rattle.verdict.specs.Search.{isBreaking}
-use Rattle.verdict.proofs.Turns.{RangeClean, rank-start, rank-next, SizesClean, no-size, next-size, none-found, set-found}
-use Rattle.verdict.proofs.search.first_breaking.Statement.{statement}
-use Rattle.verdict.proofs.search.first_breaking.Tie as tie
+use Rattle.search.specs.Search.{isBreaking}
+use Rattle.search.proofs.Turns.{RangeClean, rank-start, rank-next, SizesClean, no-size, next-size, none-found, set-found}
+use Rattle.search.proofs.first_breaking.Statement.{statement}
+use Rattle.search.proofs.first_breaking.Tie as tie
 
 abbrev Inv-loop : tie.InvT-loop
 Inv-loop table notion order probes₀ counts wires found₀ size sets rank₀ probes found rank =
-    RangeClean (isBreaking notion table 8 64) (wireCount table) size 0 rank × (found ≡ 0) × (length probes ≡ length probes₀)
+    RangeClean (isBreaking notion table maxShares maxMasks) (wireCount table) size 0 rank × (found ≡ 0) × (length probes ≡ length probes₀)
 
 abbrev μ-loop : tie.MeasureT-loop
 μ-loop table notion order probes₀ counts wires found₀ size sets rank₀ probes found rank = sets - rank
 
 abbrev Inv-search : tie.InvT-search
 Inv-search table notion order probes₀ counts wires found₀ size₀ probes found size =
-    SizesClean (isBreaking notion table 8 64) (wireCount table) size × (found ≡ 0) × (length probes ≡ length probes₀) × (1 ≤ size)
+    SizesClean (isBreaking notion table maxShares maxMasks) (wireCount table) size × (found ≡ 0) × (length probes ≡ length probes₀) × (1 ≤ size)
     × (size ≤ order + 1)
 
 abbrev μ-search : tie.MeasureT-search

@@ -17,6 +17,7 @@ use mathlib.Core.List.{List, [], _∷_, _++_, map, append-assoc, append-nil}
 use lib.Dec.{ltb, eqb}
 use lib.ListN.{length, getD, take, drop, length-drop}
 use lib.Seq.{take-at, take-all, take-take, getD-take, getD-drop, length-take-le}
+use Rattle.limits.specs.Limits.{maxShares, maxMasks, sizes}
 use Rattle.basics.specs.Folds.{keep, every}
 use Rattle.basics.proofs.Tests.{and-right}
 use Rattle.basics.proofs.Folds.{keep-append}
@@ -27,8 +28,8 @@ use Rattle.counts.specs.Counts.{binom}
 use Rattle.revolving.specs.Order.{revolving, setAt, rising, below, isSet}
 use Rattle.revolving.proofs.Rising.{isSet-parts}
 use Rattle.revolving.proofs.Revolving.{revolving-length, set-at-is-set}
-use Rattle.verdict.specs.Search.{searched, stretch, isBreaking, first, FirstSet, FirstRank}
-use Rattle.verdict.proofs.Keeping.{take-none, drop-none, keep-none-more, keep-found}
+use Rattle.search.specs.Search.{searched, stretch, isBreaking, first, FirstSet, FirstRank}
+use Rattle.search.proofs.Keeping.{take-none, drop-none, keep-none-more, keep-found}
 
 -- ---- one set
 
@@ -58,10 +59,10 @@ module _ (table : List ℕ) (n k rank : ℕ) (held old : List ℕ) (wires : n �
       set-inside table k (take (k - 0) held)
       (ap₂ (λ (m : ℕ) (l : List ℕ). isSet m k l) (sym wires) front ∙ set-at-is-set n k rank h)
 
-  pub looked : (notion : Notion) (r : Bool) → r ≡ breaks notion 8 64 (map (wireAt table) (take (k - 0) held)) → r
-      ≡ isBreaking notion table 8 64 (setAt n k rank)
+  pub looked : (notion : Notion) (r : Bool) → r ≡ breaks notion maxShares maxMasks (map (wireAt table) (take (k - 0) held)) → r
+      ≡ isBreaking notion table maxShares maxMasks (setAt n k rank)
   unfolding isBreaking
-  looked notion r e = e ∙ ap (λ (l : List ℕ). breaks notion 8 64 (map (wireAt table) l)) front
+  looked notion r e = e ∙ ap (λ (l : List ℕ). breaks notion maxShares maxMasks (map (wireAt table) l)) front
 
 -- ---- the ranks of a range
 

@@ -1,18 +1,19 @@
--- `verdict::search::first_rank` meets its contract: before each turn nothing was found in the ranks below, and one that breaks is then the
+-- `search::first_rank` meets its contract: before each turn nothing was found in the ranks below, and one that breaks is then the
 -- first. Assumes nothing.
 use Prim.Native.Nat.{_-_, _≤_}
 use mathlib.Core.Path.{_≡_, refl, sym, _∙_}
 use lib.ListN.{length}
 use borrow.Author.Needs.{needs}
+use Rattle.limits.specs.Limits.{maxShares, maxMasks}
 use Rattle.records.specs.Layout.{wireCount}
-use Rattle.verdict.specs.Search.{isBreaking}
-use Rattle.verdict.proofs.Turns.{RangeClean, rank-start, rank-next, rank-found, rank-none}
-use Rattle.verdict.proofs.search.first_rank.Statement.{statement}
-use Rattle.verdict.proofs.search.first_rank.Tie as tie
+use Rattle.search.specs.Search.{isBreaking}
+use Rattle.search.proofs.Turns.{RangeClean, rank-start, rank-next, rank-found, rank-none}
+use Rattle.search.proofs.first_rank.Statement.{statement}
+use Rattle.search.proofs.first_rank.Tie as tie
 
 abbrev Inv-loop : tie.InvT-loop
 Inv-loop table counts notion size from to probes₀ wires rank₀ probes rank =
-    RangeClean (isBreaking notion table 8 64) (wireCount table) size from rank × (length probes ≡ length probes₀) × (from ≤ rank) × (rank ≤ to)
+    RangeClean (isBreaking notion table maxShares maxMasks) (wireCount table) size from rank × (length probes ≡ length probes₀) × (from ≤ rank) × (rank ≤ to)
 
 abbrev μ-loop : tie.MeasureT-loop
 μ-loop table counts notion size from to probes₀ wires rank₀ probes rank = to - rank
