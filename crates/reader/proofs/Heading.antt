@@ -12,6 +12,7 @@ use borrow.Author.Tests.{ltb-true, ltb-false, lt-ltb, le-ltb}
 use lib.Dec.{ltb}
 use lib.ListN.{length, drop, drop-of-length-le, length-reverse}
 use lib.Seq.{drop-length}
+use Rattle.limits.specs.Limits.{maxOrder}
 use Rattle.description.specs.Header.{orderLine, masksLine}
 use Rattle.description.specs.Run.{Reading, refused, turnedDown, start, runAt, listed, secondLine, afterMasks, afterOrder, reading, maxText}
 use Rattle.description.specs.declared.Masks.{Masks}
@@ -21,7 +22,8 @@ use Rattle.description.specs.declared.Refusal.{Refusal}
 use Rattle.description.specs.declared.Refusal.the-variants.{TextTooLong, WrongOrderLine, WrongMasksLine}
 use Rattle.description.proofs.HeaderLines.{header-spelled}
 use Rattle.listing.specs.declared.Progress.{Progress}
-use Rattle.reader.specs.Going.{AllRead, OutcomeRead, LinesListed, SecondReads, ScratchReads}
+use Rattle.lines.specs.Going.{AllRead}
+use Rattle.reader.specs.Scratch.{OutcomeRead, LinesListed, SecondReads, ScratchReads}
 use Rattle.reader.specs.declared.ReadAnswer.{ReadAnswer}
 
 module _ (text : List ℕ) (order : ℕ) (m : Masks) where
@@ -30,7 +32,7 @@ module _ (text : List ℕ) (order : ℕ) (m : Masks) where
       → LinesListed text order m scratch (ReadAnswer.Refused why offset)
   lines-refused scratch why offset e = ap (listed order (m .count)) e
 
-  pub lines-scratched : (scratch : List ℕ) (q : Progress) → length text ≤ 4096 → order ≤ 7
+  pub lines-scratched : (scratch : List ℕ) (q : Progress) → length text ≤ maxText → order ≤ maxOrder
       → AllRead (order + 1) (m .declared) text (m .end) scratch q
       → LinesListed text order m scratch (ReadAnswer.Read order (order + 1) (m .count) (q .wires))
   lines-scratched scratch q short low r = record {
@@ -82,17 +84,17 @@ module _ (text : List ℕ) (order from : ℕ) (line : MasksLine) (start-there : 
       subst (λ (o : Reading). OutcomeRead o scratch r) (sym (ap (afterMasks text order) (sym there ∙ f))) reads
 
   pub masks-inside : (m : Masks) → orderLine text ≡ OrderLine.Order order → line ≡ MasksLine.Declared m
-      → (order ≤ 7) × (m .end ≤ length text)
+      → (order ≤ maxOrder) × (m .end ≤ length text)
   masks-inside m o f =
       let h = header-spelled text order m o (sym there ∙ f) in (h .1 .digit .1, h .1 .inside)
 
 -- ---- the first line
 
 module _ (text scratch : List ℕ) where
-  pub text-long : 4096 < length text → ScratchReads text scratch (ReadAnswer.Refused TextTooLong 4096)
+  pub text-long : maxText < length text → ScratchReads text scratch (ReadAnswer.Refused TextTooLong maxText)
   text-long h = ap (λ (b : Bool). cond b (turnedDown TextTooLong maxText) (afterOrder text (orderLine text))) (lt-ltb maxText (length text) h)
 
-  module _ (short : length text ≤ 4096) (line : OrderLine) (e : line ≡ orderLine text) where
+  module _ (short : length text ≤ maxText) (line : OrderLine) (e : line ≡ orderLine text) where
     -- a text that is not too long
     begins : reading text ≡ afterOrder text line
     begins =

@@ -14,6 +14,7 @@ use mathlib.Core.List.{List, [], _∷_}
 use borrow.Author.Tests.{eq-eqb, eqb-true, le-ltb, ltb-false, lt-leb, leb-false, not-false}
 use lib.Dec.{eqb, ltb, leb}
 use lib.ListN.{length, take, drop, getD}
+use Rattle.limits.specs.Limits.{recordBytes, maxTableBytes}
 use Rattle.basics.specs.Told.{values, refusal}
 use Rattle.basics.proofs.Tests.{or-none}
 use Rattle.basics.proofs.Telling.{values-refusal, test-passed, test-carried}
@@ -27,8 +28,8 @@ use Rattle.reader.specs.declared.PartRefusal.{PartRefusal}
 short-small : (table : List ℕ) (wire at : ℕ) → Bytes table → wire < wireCount table → at + 2 ≤ 24 → field at 2 (recordAt table wire) < 65536
 short-small table wire at bytes inside h =
     let r = record-inside table wire inside in
-    let two = two-bytes table (24 * wire + at) (getD table (24 * wire + at) 0) (getD table (24 * wire + at + 1) 0) (omega (arith, r, h)) refl refl in
-    omega (arith, field-at table wire at 2 h, two, bytes (24 * wire + at), bytes (24 * wire + at + 1))
+    let two = two-bytes table (recordBytes * wire + at) (getD table (recordBytes * wire + at) 0) (getD table (recordBytes * wire + at + 1) 0) (omega (arith, r, h)) refl refl in
+    omega (arith, field-at table wire at 2 h, two, bytes (recordBytes * wire + at), bytes (recordBytes * wire + at + 1))
 
 pub place-small : (table : List ℕ) (wire : ℕ) → Bytes table → wire < wireCount table
     → (offsetOf (recordAt table wire) < 65536) × (lengthOf (recordAt table wire) < 65536)
@@ -37,8 +38,8 @@ place-small table wire bytes inside =
 
 -- a multiple of 24 bytes, up to 12,288; a wire of the table; the offset and length that its record says, and a part within the text
 pub record PartStands (text table : List ℕ) (wire offset size : ℕ) : Type 0 where
-  pub whole : length table % 24 ≡ 0
-  pub short : length table ≤ 12288
+  pub whole : length table % recordBytes ≡ 0
+  pub short : length table ≤ maxTableBytes
   pub known : wire < wireCount table
   pub same-offset : offset ≡ offsetOf (recordAt table wire)
   pub same-size : size ≡ lengthOf (recordAt table wire)
@@ -78,13 +79,13 @@ module _ (text table : List ℕ) (wire : ℕ) where
       there : partCheck text table wire ≡ values (offset ∷ size ∷ []) → PartStands text table wire offset size
       there e =
           let h = passed offset size e in
-          let lengths = or-none (not (eqb (length table % 24) 0)) (ltb 12288 (length table)) (h .right-length) in
+          let lengths = or-none (not (eqb (length table % recordBytes) 0)) (ltb maxTableBytes (length table)) (h .right-length) in
           let told = h .tells in
           let o : offset ≡ at = cc in
           let s : size ≡ long = cc in
           record {
-            whole = eqb-true (length table % 24) 0 (not-false (eqb (length table % 24) 0) (lengths .0));
-            short = ltb-false 12288 (length table) (lengths .1);
+            whole = eqb-true (length table % recordBytes) 0 (not-false (eqb (length table % recordBytes) 0) (lengths .0));
+            short = ltb-false maxTableBytes (length table) (lengths .1);
             known = leb-false (wireCount table) wire (h .right-wire);
             same-offset = o;
             same-size = s;
@@ -95,8 +96,8 @@ module _ (text table : List ℕ) (wire : ℕ) where
       back h =
           let accepts : partCheck text table wire ≡ values (at ∷ long ∷ []) =
           simp (
-            eq-eqb (length table % 24) 0 (h .whole),
-            le-ltb 12288 (length table) (h .short),
+            eq-eqb (length table % recordBytes) 0 (h .whole),
+            le-ltb maxTableBytes (length table) (h .short),
             lt-leb (wireCount table) wire (h .known),
             le-ltb (length text) (at + long) (omega (arith, h .same-offset, h .same-size, h .inside)),
           ) in

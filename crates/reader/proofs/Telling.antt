@@ -14,6 +14,7 @@ use borrow.Author.Tests.{ltb-false, lt-ltb, le-ltb}
 use lib.Dec.{ltb}
 use lib.ListN.{length, take, drop, length-append}
 use lib.Seq.{take-at}
+use Rattle.limits.specs.Limits.{maxWires}
 use Rattle.basics.specs.Told.{values}
 use Rattle.basics.proofs.Tests.{or-left, or-right, or-none}
 use Rattle.records.specs.Layout.{recordBytes, wires}
@@ -28,7 +29,7 @@ use Rattle.description.proofs.Encoding.{length-records, record-count}
 use Rattle.description.proofs.Exactly.{spelled-read, read-spelled, spelled-limits}
 use Rattle.description.proofs.Tables.{wires-mean, places-mean, parts-within, table-passes}
 use Rattle.reader.specs.Answers.{ReadLent, gives, refused, readTold, tooLarge, lentReading, readText, partCheck}
-use Rattle.reader.specs.Going.{Scratched}
+use Rattle.reader.specs.Scratch.{Scratched}
 use Rattle.reader.specs.Reads.{Readable, Given, ReadsGrammar}
 use Rattle.reader.proofs.Parts.{part-exactly}
 use Rattle.reader.specs.declared.ReadAnswer.{ReadAnswer}
@@ -60,19 +61,19 @@ module _ (text table : List ℕ) where
         (record { told = gives order (order + 1) masks wires; held = recordsOf (s .listed-wires) ++ drop (recordBytes * wires) table }))
         e
 
-    pub read-many : 512 < wires → readTold (ReadAnswer.Refused TooManyWires (length text)) table ≡ readText text table
-    read-many h = sym (told true (or-left (ltb 512 wires) (ltb (length table) (24 * wires)) (lt-ltb 512 wires h)))
+    pub read-many : maxWires < wires → readTold (ReadAnswer.Refused TooManyWires (length text)) table ≡ readText text table
+    read-many h = sym (told true (or-left (ltb maxWires wires) (ltb (length table) (recordBytes * wires)) (lt-ltb maxWires wires h)))
 
-    pub read-short : length table < 24 * wires → readTold (ReadAnswer.Refused TooManyWires (length text)) table ≡ readText text table
-    read-short h = sym (told true (or-right (ltb 512 wires) (ltb (length table) (24 * wires)) (lt-ltb (length table) (24 * wires) h)))
+    pub read-short : length table < recordBytes * wires → readTold (ReadAnswer.Refused TooManyWires (length text)) table ≡ readText text table
+    read-short h = sym (told true (or-right (ltb maxWires wires) (ltb (length table) (recordBytes * wires)) (lt-ltb (length table) (recordBytes * wires) h)))
 
-    pub read-copied : (held : List ℕ) → wires ≤ 512 → 24 * wires ≤ length table
-        → held ≡ take (24 * wires) scratch ++ drop (24 * wires) table
+    pub read-copied : (held : List ℕ) → wires ≤ maxWires → recordBytes * wires ≤ length table
+        → held ≡ take (recordBytes * wires) scratch ++ drop (recordBytes * wires) table
         → readTold (ReadAnswer.Read order shares masks wires) held ≡ readText text table
     read-copied held few room e =
         ap₂ (λ (n : ℕ) (l : List ℕ). readTold (ReadAnswer.Read order n masks wires) l) (s .same-shares)
-        (e ∙ ap (λ (l : List ℕ). l ++ drop (24 * wires) table) (s .records few))
-        ∙ sym (told false (ap₂ _||_ (le-ltb 512 wires few) (le-ltb (length table) (24 * wires) room)))
+        (e ∙ ap (λ (l : List ℕ). l ++ drop (recordBytes * wires) table) (s .records few))
+        ∙ sym (told false (ap₂ _||_ (le-ltb maxWires wires few) (le-ltb (length table) (recordBytes * wires) room)))
 
   -- ---- the grammar
 
@@ -82,9 +83,9 @@ module _ (text table : List ℕ) where
     reads : reading text ≡ read order masks listed-wires
     same-shares : shares ≡ order + 1
     same-count : wires ≡ length listed-wires
-    few : length listed-wires ≤ 512
-    room : 24 * length listed-wires ≤ length table
-    holds : held ≡ recordsOf listed-wires ++ drop (24 * length listed-wires) table
+    few : length listed-wires ≤ maxWires
+    room : recordBytes * length listed-wires ≤ length table
+    holds : held ≡ recordsOf listed-wires ++ drop (recordBytes * length listed-wires) table
 
   granted : (order shares masks wires : ℕ) (held : List ℕ) → readTold (ReadAnswer.Read order shares masks wires) held ≡ readText text table
       → Granted order shares masks wires held
@@ -100,13 +101,13 @@ module _ (text table : List ℕ) where
           sized : (b : Bool) → tooLarge table (length ws) ≡ b
               → readTold (ReadAnswer.Read order shares masks wires) held
               ≡ cond b (record { told = refused 10 (length text); held = table })
-              (record { told = gives o (o + 1) m (length ws); held = recordsOf ws ++ drop (24 * length ws) table })
+              (record { told = gives o (o + 1) m (length ws); held = recordsOf ws ++ drop (recordBytes * length ws) table })
               → Granted order shares masks wires held
           sized true g e =
               let same : gives order shares masks wires ≡ refused 10 (length text) = ap (λ (l : ReadLent). l .told) e in
               let z : _≡_ {A = ℕ} 0 1 = cc in absurd (omega (arith, z))
           sized false g e =
-              let h = or-none (ltb 512 (length ws)) (ltb (length table) (24 * length ws)) g in
+              let h = or-none (ltb maxWires (length ws)) (ltb (length table) (recordBytes * length ws)) g in
               let same : gives order shares masks wires ≡ gives o (o + 1) m (length ws) = ap (λ (l : ReadLent). l .told) e in
               let eo : o ≡ order = cc in
               let em : m ≡ masks = cc in
@@ -116,17 +117,17 @@ module _ (text table : List ℕ) where
                 reads = f ∙ ap₂ (λ (x y : ℕ). read x y ws) eo em;
                 same-shares = es ∙ ap (λ (x : ℕ). x + 1) eo;
                 same-count = (let ew : wires ≡ length ws = cc in ew);
-                few = ltb-false 512 (length ws) (h .0);
-                room = ltb-false (length table) (24 * length ws) (h .1);
+                few = ltb-false maxWires (length ws) (h .0);
+                room = ltb-false (length table) (recordBytes * length ws) (h .1);
                 holds = ap (λ (l : ReadLent). l .held) e;
               }
 
   -- the records stand at the start of the table
   held-records : (order shares masks wires : ℕ) (held : List ℕ) (g : Granted order shares masks wires held)
-      → take (24 * wires) held ≡ recordsOf (g .listed-wires)
+      → take (recordBytes * wires) held ≡ recordsOf (g .listed-wires)
   held-records order shares masks wires held g =
-      ap₂ (λ (n : ℕ) (l : List ℕ). take (24 * n) l) (g .same-count) (g .holds)
-      ∙ take-at (recordsOf (g .listed-wires)) (drop (24 * length (g .listed-wires)) table) (24 * length (g .listed-wires))
+      ap₂ (λ (n : ℕ) (l : List ℕ). take (recordBytes * n) l) (g .same-count) (g .holds)
+      ∙ take-at (recordsOf (g .listed-wires)) (drop (recordBytes * length (g .listed-wires)) table) (recordBytes * length (g .listed-wires))
       (length-records (g .listed-wires))
 
   -- the wires, and the parts of the text, of the records that stand in the table
@@ -140,14 +141,14 @@ module _ (text table : List ℕ) where
     same-list : g .listed-wires ≡ wiresOf d
     same-list = let e = same in cc
 
-    records : take (24 * count) held ≡ recordsOf (wiresOf d)
+    records : take (recordBytes * count) held ≡ recordsOf (wiresOf d)
     records = held-records order shares masks count held g ∙ ap recordsOf same-list
 
-    few-wires : length (wiresOf d) ≤ 512
-    few-wires = subst (λ (ws : List Listed). length ws ≤ 512) same-list (g .few)
+    few-wires : length (wiresOf d) ≤ maxWires
+    few-wires = subst (λ (ws : List Listed). length ws ≤ maxWires) same-list (g .few)
 
-    multiple : (n : ℕ) → 24 * n % 24 ≡ 0
-    multiple n = ap (λ (k : ℕ). k % 24) (mul-comm 24 n) ∙ mul-mod-left n 24
+    multiple : (n : ℕ) → recordBytes * n % recordBytes ≡ 0
+    multiple n = ap (λ (k : ℕ). k % recordBytes) (mul-comm 24 n) ∙ mul-mod-left n 24
 
     parts : (before after : List Listed) (w : Listed) → wiresOf d ≡ before ++ w ∷ after
         → partCheck text (recordsOf (wiresOf d)) (length before) ≡ values (w .offset ∷ w .length ∷ [])
@@ -157,7 +158,7 @@ module _ (text table : List ℕ) where
         let place = places-mean text d spells limits before after w e in
         let within = parts-within text d spells limits (length before) known in
         part-exactly text (recordsOf (wiresOf d)) (length before) (w .offset) (w .length) .1 (record {
-          whole = ap (λ (n : ℕ). n % 24) size ∙ multiple (length (wiresOf d));
+          whole = ap (λ (n : ℕ). n % recordBytes) size ∙ multiple (length (wiresOf d));
           short = omega (arith, size, few-wires);
           known = subst (λ (n : ℕ). length before < n) (sym (record-count (wiresOf d))) known;
           same-offset = sym (place .0);
@@ -182,12 +183,12 @@ module _ (text table : List ℕ) where
         }
 
   passes : (order shares masks count : ℕ) (held : List ℕ) → Granted order shares masks count held
-      → tableCheck (take (24 * count) held) shares masks ≡ values []
+      → tableCheck (take (recordBytes * count) held) shares masks ≡ values []
   passes order shares masks count held g =
       let s = read-spelled text order masks (g .listed-wires) (g .reads) in
       let d = s .description in
       let v = given order shares masks count held g d (s .spells) in
-      ap₂ (λ (n m : ℕ). tableCheck (take (24 * count) held) n m) (v .same-shares) (v .same-masks)
+      ap₂ (λ (n m : ℕ). tableCheck (take (recordBytes * count) held) n m) (v .same-shares) (v .same-masks)
       ∙ ap (λ (l : List ℕ). tableCheck l (d .order + 1) (maskCount (d .names))) (v .same-records)
       ∙ table-passes text d (s .spells) (s .limits) (few-wires order shares masks count held g d (s .spells))
 
@@ -198,8 +199,8 @@ module _ (text table : List ℕ) where
         description = s .description;
         spells = s .spells;
         limits = s .limits;
-        few-wires = subst (λ (ws : List Listed). length ws ≤ 512) (s .same-wires) (g .few);
-        table-room = subst (λ (ws : List Listed). 24 * length ws ≤ length table) (s .same-wires) (g .room);
+        few-wires = subst (λ (ws : List Listed). length ws ≤ maxWires) (s .same-wires) (g .few);
+        table-room = subst (λ (ws : List Listed). recordBytes * length ws ≤ length table) (s .same-wires) (g .room);
       }
 
   -- a readable text is told as read
@@ -207,7 +208,7 @@ module _ (text table : List ℕ) where
       readText text table
       ≡ record {
         told = gives (d .order) (d .order + 1) (maskCount (d .names)) (length ws);
-        held = recordsOf ws ++ drop (24 * length ws) table;
+        held = recordsOf ws ++ drop (recordBytes * length ws) table;
       }
   readable-told r =
       let d = r .description in
@@ -216,8 +217,8 @@ module _ (text table : List ℕ) where
       ∙ ap
       (λ (b : Bool).
       cond {A = ReadLent} b (record { told = refused 10 (length text); held = table })
-      (record { told = gives (d .order) (d .order + 1) (maskCount (d .names)) (length ws); held = recordsOf ws ++ drop (24 * length ws) table }))
-      (ap₂ _||_ (le-ltb 512 (length ws) (r .few-wires)) (le-ltb (length table) (24 * length ws) (r .table-room)))
+      (record { told = gives (d .order) (d .order + 1) (maskCount (d .names)) (length ws); held = recordsOf ws ++ drop (recordBytes * length ws) table }))
+      (ap₂ _||_ (le-ltb maxWires (length ws) (r .few-wires)) (le-ltb (length table) (recordBytes * length ws) (r .table-room)))
 
   pub reads-grammar : (answer : ReadAnswer) (held : List ℕ) → readTold answer held ≡ readText text table
       → ReadsGrammar answer text (length table) held

@@ -8,13 +8,11 @@ ghost use mathlib.Core.List.{_++_};
 ghost use Rattle.reader.specs.Answers.{readTold, readText, partRefusalNumber, partTold, partCheck, textPart, partStart};
 ghost use Rattle.reader.specs.Reads.{ReadsGrammar};
 use description::Refusal;
-use listing::MAX_WIRES;
-use records::layout::RECORD_BYTES;
+use limits::MAX_TABLE_BYTES;
+use limits::MAX_WIRES;
+use limits::RECORD_BYTES;
 use records::layout::text_place;
-use table::MAX_TABLE_BYTES;
 
-mod groups;
-mod lines;
 mod scratch;
 
 // A text that was read gives its order, shares, mask count and wire count; one that is turned down, why and the byte offset.
@@ -62,7 +60,7 @@ pub fn read_text(text: &[u8], table: &mut [u8]) -> ReadAnswer
     ensures { λ r. ⌜ readTold r (now (table .exit)) ≡ readText (now (text .entry)) (now (table .entry)) ⌝ }
     ensures { λ r. ⌜ ReadsGrammar r (now (text .entry)) (length (now (table .entry))) (now (table .exit)) ⌝ }
 {
-    let mut scratch = [0u8; 12288];
+    let mut scratch = [0u8; MAX_TABLE_BYTES];
     let read = scratch::read_scratch(text, &mut scratch);
     match read {
         ReadAnswer::Refused { why, offset } => ReadAnswer::Refused {

@@ -2,17 +2,18 @@
 ghost use mathlib.Core.Path.{_≡_};
 ghost use Prim.Native.Nat.{_≤_};
 ghost use lib.ListN.{length};
+ghost use Rattle.limits.specs.Limits.{maxOrder, maxTableBytes};
 ghost use Rattle.description.specs.Header.{orderLine};
-ghost use Rattle.description.specs.Run.{secondLine};
+ghost use Rattle.description.specs.Run.{secondLine, maxText};
 ghost use Rattle.description.specs.declared.OrderLine.{OrderLine};
-ghost use Rattle.reader.specs.Going.{LinesListed, SecondReads, ScratchReads};
+ghost use Rattle.reader.specs.Scratch.{LinesListed, SecondReads, ScratchReads};
 use super::ReadAnswer;
-use super::groups::Answer;
-use super::lines::lines;
 use description::Masks;
 use description::MasksLine;
 use description::OrderLine;
 use description::Refusal;
+use lines::groups::Answer;
+use lines::lines;
 use tokens::header::masks_line;
 use tokens::header::order_line;
 
@@ -23,7 +24,7 @@ const SECOND_LINE: usize = 10;
 
 // Reads a text into a table of 12,288 bytes; wires are counted on past the 512th.
 pub fn read_scratch(text: &[u8], scratch: &mut [u8]) -> ReadAnswer
-    requires { ⌜ length (now scratch) ≡ 12288 ⌝ }
+    requires { ⌜ length (now scratch) ≡ maxTableBytes ⌝ }
     ensures { λ r. ⌜ ScratchReads (now (text .entry)) (now (scratch .exit)) r ⌝ }
 {
     if MAX_TEXT_BYTES < text.len() {
@@ -54,7 +55,7 @@ fn second_line(text: &[u8]) -> usize
 
 // The second line and the output lines.
 fn read_second(text: &[u8], scratch: &mut [u8], order: usize) -> ReadAnswer
-    requires { ⌜ (length (now text) ≤ 4096) × (length (now scratch) ≡ 12288) × (orderLine (now text) ≡ OrderLine.Order order) ⌝ }
+    requires { ⌜ (length (now text) ≤ maxText) × (length (now scratch) ≡ maxTableBytes) × (orderLine (now text) ≡ OrderLine.Order order) ⌝ }
     ensures { λ r. ⌜ SecondReads (now (text .entry)) order (now (scratch .exit)) r ⌝ }
 {
     let from = second_line(text);
@@ -70,7 +71,7 @@ fn read_second(text: &[u8], scratch: &mut [u8], order: usize) -> ReadAnswer
 
 // The output lines, read into a table of 12,288 bytes.
 fn read_lines(text: &[u8], scratch: &mut [u8], order: usize, masks: Masks) -> ReadAnswer
-    requires { ⌜ (length (now text) ≤ 4096) × (length (now scratch) ≡ 12288) × (order ≤ 7) × (masks .end ≤ length (now text)) ⌝ }
+    requires { ⌜ (length (now text) ≤ maxText) × (length (now scratch) ≡ maxTableBytes) × (order ≤ maxOrder) × (masks .end ≤ length (now text)) ⌝ }
     ensures { λ r. ⌜ LinesListed (now (text .entry)) order masks (now (scratch .exit)) r ⌝ }
 {
     let read = lines(text, scratch, order + 1, masks.declared, masks.end);

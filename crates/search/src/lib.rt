@@ -11,7 +11,7 @@ ghost use Rattle.records.specs.Layout.{wireCount};
 ghost use Rattle.search.specs.Search.{searched, isBreaking, FirstSet, FirstRank};
 use counts::count;
 use limits::COUNTS;
-use records::layout::RECORD_BYTES;
+use limits::RECORD_BYTES;
 use records::sums;
 use revolving::unrank;
 use wires::Notion;

@@ -3,7 +3,7 @@
 // line of its own. `tests/try_report.py` writes the files, and works the output out from the scope.
 ghost use Prim.Native.Nat.{_≤_};
 use bytes::scan::find;
-use listing::MAX_WIRES;
+use limits::MAX_WIRES;
 use reader::ReadAnswer;
 use records::layout::RECORD_BYTES;
 use report_text::INPUT_BYTES;

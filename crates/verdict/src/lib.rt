@@ -9,7 +9,7 @@ ghost use Rattle.verdict.specs.First.{VerdictFinds, RangeFinds};
 ghost use Rattle.verdict.specs.Guarantee.{Guarantee};
 use counts::count;
 use limits::MAX_SIZE;
-use records::layout::RECORD_BYTES;
+use limits::RECORD_BYTES;
 use table::TableAnswer;
 use table::table_check;
 use wires::Notion;

@@ -6,6 +6,7 @@ use mathlib.Core.Path.{sym}
 use borrow.Author.Tests.{lt-ltb, le-ltb, le-leb, lt-leb, eq-eqb, ne-eqb}
 use borrow.Author.Needs.{needs}
 use lib.ListN.{length}
+use Rattle.limits.specs.Limits.{recordBytes, maxTableBytes}
 use Rattle.records.specs.Layout.{recordAt, offsetOf, lengthOf}
 use Rattle.reader.proofs.Parts.{place-small, part-exactly}
 use Rattle.reader.proofs.text_part_check.Statement.{statement}
@@ -13,19 +14,19 @@ use Rattle.reader.proofs.text_part_check.Tie as tie
 
 returns : tie.Need-returns
 returns c =
-    let a = c .before .before .before .args in simp (ne-eqb (length (a .table .now) % 24) 0 (c .if1 .taken))
+    let a = c .before .before .before .args in simp (ne-eqb (length (a .table .now) % recordBytes) 0 (c .if1 .taken))
 
 returns-2 : tie.Need-returns-2
 returns-2 c =
     let a = c .before .before .before .before .args in
-    simp (eq-eqb (length (a .table .now) % 24) 0 (omega arith), lt-ltb 12288 (length (a .table .now)) (omega arith))
+    simp (eq-eqb (length (a .table .now) % recordBytes) 0 (omega arith), lt-ltb maxTableBytes (length (a .table .now)) (omega arith))
 
 returns-3 : tie.Need-returns-3
 returns-3 c =
     let a = c .before .before .before .before .before .args in
     simp (
-      eq-eqb (length (a .table .now) % 24) 0 (omega arith),
-      le-ltb 12288 (length (a .table .now)) (omega arith),
+      eq-eqb (length (a .table .now) % recordBytes) 0 (omega arith),
+      le-ltb maxTableBytes (length (a .table .now)) (omega arith),
       le-leb (length (a .table .now) / 24) (a .wire) (c .if3 .taken),
     )
 
@@ -46,8 +47,8 @@ returns-4 c =
     let r = recordAt (a .table .now) (a .wire) in
     let place = c .before .before .text-place .ensures in
     simp (
-      eq-eqb (length (a .table .now) % 24) 0 (omega arith),
-      le-ltb 12288 (length (a .table .now)) (omega arith),
+      eq-eqb (length (a .table .now) % recordBytes) 0 (omega arith),
+      le-ltb maxTableBytes (length (a .table .now)) (omega arith),
       lt-leb (length (a .table .now) / 24) (a .wire) (c .before .before .before .if3 .left),
       lt-ltb (length (a .text .now)) (offsetOf r + lengthOf r) (omega (arith, place .1, place .2, c .if4 .taken)),
     )
