@@ -12,6 +12,7 @@ use mathlib.Core.List.{List, [], _∷_, _++_}
 use borrow.Author.Tests.{leb-false}
 use lib.Dec.{ltb, leb, eqb}
 use lib.ListN.{length, take, drop}
+use Rattle.limits.specs.Limits.{maxWires, maxSize}
 use Rattle.basics.specs.Told.{Told, Lent, values, refusal, turnedDown}
 use Rattle.basics.proofs.Telling.{test-passed, test-kept, values-refusal}
 use Rattle.counts.specs.Counts.{binom}
@@ -22,7 +23,7 @@ use Rattle.sets.specs.declared.RankAnswer.{RankAnswer}
 use Rattle.sets.specs.declared.JobAnswer.{JobAnswer}
 use Rattle.revolving.specs.Order.{setAt, rankOf, rising, below}
 use Rattle.sets.specs.Division.{start}
-use Rattle.sets.specs.Answers.{refusalNumber, countTold, setTold, rankTold, jobTold, maxWires, maxSize, maxJobs, setCount, setFromRank, rankFromSet, jobRanks}
+use Rattle.sets.specs.Answers.{refusalNumber, countTold, setTold, rankTold, jobTold, maxJobs, setCount, setFromRank, rankFromSet, jobRanks}
 use Rattle.revolving.proofs.Rising.{isSet-parts}
 use Rattle.revolving.proofs.Revolving.{set-at-is-set}
 use Rattle.verdict.specs.Answers.{written}

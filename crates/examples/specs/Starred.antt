@@ -16,10 +16,11 @@ use mathlib.Core.Bool.{false}
 use mathlib.Core.List.{List, [], _∷_}
 use lib.ListN.{take, replicate}
 use Prim.Native.String.{String}
+use Rattle.limits.specs.Limits.{maxWires, recordBytes}
 use Rattle.basics.specs.Folds.{keep, upTo}
 use Rattle.basics.specs.Quoted.{bytes}
 use Rattle.basics.specs.Told.{Told, values, refusal}
-use Rattle.records.specs.Layout.{recordBytes, wireAt}
+use Rattle.records.specs.Layout.{wireAt}
 use Rattle.counts.specs.Counts.{binom}
 use Rattle.wires.specs.declared.Notion.{Notion}
 use Rattle.sets.specs.Answers.{setCount, setFromRank, rankFromSet, jobRanks}
@@ -165,4 +166,4 @@ starred =
 
 pub record AlsoInGeneral : Type 0 where
   pub empty-set : (notion : Notion) (table : List ℕ) (shares masks : ℕ) → isBreaking notion table shares masks [] ≡ false
-  pub rank-one : (wires : ℕ) → 3 ≤ wires → wires ≤ 512 → SetTells wires 2 1 (1 ∷ 2 ∷ [])
+  pub rank-one : (wires : ℕ) → 3 ≤ wires → wires ≤ maxWires → SetTells wires 2 1 (1 ∷ 2 ∷ [])

@@ -22,7 +22,7 @@ use Rattle.description.specs.declared.Refusal.{Refusal}
 use Rattle.description.specs.declared.Refusal.the-variants.{TextTooLong, WrongOrderLine, WrongMasksLine}
 use Rattle.description.proofs.HeaderLines.{header-spelled}
 use Rattle.listing.specs.declared.Progress.{Progress}
-use Rattle.lines.specs.Going.{AllRead}
+use Rattle.output_lines.specs.Going.{AllRead}
 use Rattle.reader.specs.Scratch.{OutcomeRead, LinesListed, SecondReads, ScratchReads}
 use Rattle.reader.specs.declared.ReadAnswer.{ReadAnswer}
 

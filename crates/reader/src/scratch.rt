@@ -12,8 +12,8 @@ use description::Masks;
 use description::MasksLine;
 use description::OrderLine;
 use description::Refusal;
-use lines::groups::Answer;
-use lines::lines;
+use output_lines::groups::Answer;
+use output_lines::lines;
 use tokens::header::masks_line;
 use tokens::header::order_line;
 

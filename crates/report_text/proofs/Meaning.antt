@@ -25,6 +25,7 @@ use lib.Dec.{ltb, leb, eqb}
 use lib.ListN.{length, length-replicate, take, drop, getD}
 use lib.Seq.{take-at, take-append-seam}
 use borrow.Author.Tests.{le-leb, le-ltb, lt-ltb, ltb-true, ltb-false, eq-eqb}
+use Rattle.limits.specs.Limits.{maxWires, recordBytes, maxTableBytes}
 use Rattle.basics.specs.Folds.{keep, oneIf}
 use Rattle.basics.specs.Quoted.{bytes}
 use Rattle.basics.specs.Told.{Lent, values, refusal}
@@ -38,7 +39,7 @@ use Rattle.watcher.proofs.Bits.{pick, pick-map}
 use Rattle.watcher.proofs.Choice.{choice}
 use Rattle.records.specs.Layout.{wireAt, wireCount, wires}
 use Rattle.revolving.specs.Order.{rankOf}
-use Rattle.table.specs.Answers.{maxTableBytes, tableCheck, functionCheck}
+use Rattle.table.specs.Answers.{tableCheck, functionCheck}
 use Rattle.table.proofs.Entries.{accepted, accepted-exactly, tested-answer}
 use Rattle.search.specs.Search.{searched, isBreaking}
 use Rattle.verdict.specs.Answers.{notionOf, written, firstShown, verdictOf}
@@ -49,7 +50,7 @@ use Rattle.verdict.proofs.First.{first-is}
 use Rattle.verdict.proofs.Accepting.{verdict-answered, verdict-ordered, verdict-accepts}
 use Rattle.description.specs.declared.Listed.{Listed}
 use Rattle.description.specs.declared.Refusal.{Refusal}
-use Rattle.description.specs.Listing.{maxWires, recordsOf}
+use Rattle.description.specs.Listing.{recordsOf}
 use Rattle.description.specs.Grammar.{Description, Spells, Limits, wiresOf}
 use Rattle.description.specs.Run.{Reading, read, turnedDown, reading, refusalNumber}
 use Rattle.description.proofs.Encoding.{length-records}
@@ -87,7 +88,7 @@ module _ (text : List ℕ) where
     abbrev sized : Bool → ReadLent
     sized large =
         cond large (record { told = refused 10 (length text); held = emptyTable })
-        (record { told = gives order (order + 1) masks (length ws); held = recordsOf ws ++ drop (24 * length ws) emptyTable })
+        (record { told = gives order (order + 1) masks (length ws); held = recordsOf ws ++ drop (recordBytes * length ws) emptyTable })
 
     sized-read : (large : Bool) → tooLarge emptyTable (length ws) ≡ large → readText text emptyTable ≡ sized large
     sized-read large f = ap (lentReading text emptyTable) e ∙ ap sized f
@@ -95,17 +96,17 @@ module _ (text : List ℕ) where
     large-told : maxWires < length ws → readText text emptyTable .told ≡ refused 10 (length text)
     large-told h =
         ap (λ (lent : ReadLent). lent .told)
-        (sized-read true (or-left (ltb 512 (length ws)) (ltb (length emptyTable) (24 * length ws)) (lt-ltb 512 (length ws) h)))
+        (sized-read true (or-left (ltb maxWires (length ws)) (ltb (length emptyTable) (recordBytes * length ws)) (lt-ltb maxWires (length ws) h)))
 
     read-report : length ws ≤ maxWires
         → report text ≡ orderLine order (order + 1) masks (length ws) ++ checked (recordsOf ws) order (order + 1) masks
     unfolding report
     read-report few =
-        let room = length-replicate {A = ℕ} 12288 0 in
+        let room = length-replicate {A = ℕ} maxTableBytes 0 in
         ap readReported
-        (sized-read false (ap₂ _||_ (le-ltb 512 (length ws) few) (le-ltb (length emptyTable) (24 * length ws) (omega (arith, room, few)))))
+        (sized-read false (ap₂ _||_ (le-ltb maxWires (length ws) few) (le-ltb (length emptyTable) (recordBytes * length ws) (omega (arith, room, few)))))
         ∙ ap (λ (l : List ℕ). orderLine order (order + 1) masks (length ws) ++ checked l order (order + 1) masks)
-        (take-at (recordsOf ws) (drop (24 * length ws) emptyTable) (24 * length ws) (length-records ws))
+        (take-at (recordsOf ws) (drop (recordBytes * length ws) emptyTable) (recordBytes * length ws) (length-records ws))
 
 -- ---- the function
 

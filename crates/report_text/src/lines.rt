@@ -5,22 +5,22 @@ ghost use lib.ListN.{length};
 ghost use Rattle.table.specs.Answers.{functionCheck};
 ghost use Rattle.verdict.specs.Answers.{verdictOf};
 ghost use Rattle.pages.specs.Page.{Wrote};
-ghost use Rattle.report_text.specs.Report.{orderLine, saysYes, functionLine, notionName, emptySet, verdictSaid, notionLine, checked, refusedLine, report};
+ghost use Rattle.report_text.specs.Report.{maxReport, orderLine, saysYes, functionLine, notionName, emptySet, verdictSaid, notionLine, checked, refusedLine, report};
 use limits::MAX_SIZE;
+use limits::MAX_TABLE_BYTES;
+use limits::RECORD_BYTES;
 use pages::write_named;
 use pages::write_text;
 use pages::write_wires;
 use reader::ReadAnswer;
-use records::layout::RECORD_BYTES;
 use table::FunctionAnswer;
-use table::MAX_TABLE_BYTES;
 use verdict::VerdictAnswer;
 
 // The whole report on a text.
 pub fn whole_report(page: &mut [u8], text: &[u8]) -> usize
-    requires { ⌜ length (now page) ≡ 512 ⌝ }
+    requires { ⌜ length (now page) ≡ maxReport ⌝ }
     ensures { λ r. ⌜ Wrote (now (page .entry)) 0 (report (now (text .entry))) (now (page .exit)) r ⌝ }
-    ensures { λ r. ⌜ r ≤ 512 ⌝ }
+    ensures { λ r. ⌜ r ≤ maxReport ⌝ }
 {
     let mut table = [0u8; MAX_TABLE_BYTES];
     let read = reader::read_text(text, &mut table);

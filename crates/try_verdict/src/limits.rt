@@ -6,7 +6,7 @@ use crate::SNI;
 use crate::tell_range;
 use crate::tell_verdict;
 use crate::title;
-use records::layout::RECORD_BYTES;
+use limits::RECORD_BYTES;
 
 const SMALL: usize = 72;
 

@@ -4,7 +4,7 @@
 // and works the output out from the scope.
 ghost use Prim.Native.Nat.{_≤_, _<_};
 ghost use lib.ListN.{length};
-use records::layout::RECORD_BYTES;
+use limits::RECORD_BYTES;
 use sets::CountAnswer;
 use sets::JobAnswer;
 use try_cases::case_end;

@@ -2,8 +2,8 @@
 -- Assumes nothing.
 use Prim.Native.Nat.{_+_}
 use mathlib.Core.Path.{subst}
-use Rattle.lines.specs.Going.{LinesRead}
-use Rattle.lines.specs.declared.groups.Answer.{Answer}
+use Rattle.output_lines.specs.Going.{LinesRead}
+use Rattle.output_lines.specs.declared.groups.Answer.{Answer}
 use Rattle.reader.proofs.Heading.{lines-refused, lines-scratched}
 use borrow.Author.Needs.{needs}
 use Rattle.reader.proofs.scratch.read_lines.Statement.{statement}

@@ -1,3 +1,0 @@
--- The definitions that the promises of `lines` cite.
---     Going      what the code's parts read, as steps of the run
-pub mod Going
