@@ -11,9 +11,9 @@ use mathlib.Core.List.{List, [], _∷_, _++_}
 use lib.ListN.{length, take, drop}
 use lib.Seq.{drop-append-seam}
 use lib.Dec.{ltb}
+use Rattle.limits.specs.Limits.{recordBytes}
 use Rattle.basics.specs.Told.{Lent, values, refusal, turnedDown}
 use Rattle.basics.proofs.Telling.{test-passed, test-kept, values-refusal}
-use Rattle.records.specs.Layout.{recordBytes}
 use Rattle.description.specs.declared.Refusal.{Refusal}
 use Rattle.description.specs.Listing.{recordsOf}
 use Rattle.description.specs.Run as run

@@ -18,9 +18,10 @@ use mathlib.Core.Logic.{_↔_, _⊎_}
 use mathlib.Core.Bool.{false}
 use mathlib.Core.List.{List, []}
 use lib.ListN.{length, take, drop}
+use Rattle.limits.specs.Limits.{recordBytes}
 use Rattle.basics.specs.Told.{values}
 use Rattle.wires.specs.Function.{AddUpTo}
-use Rattle.records.specs.Layout.{recordBytes, wireCount, wires}
+use Rattle.records.specs.Layout.{wireCount, wires}
 use Rattle.counts.specs.Counts.{binom}
 use Rattle.sets.specs.Order.{setAt, rankOf}
 use Rattle.sets.specs.Division.{start}

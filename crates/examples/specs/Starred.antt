@@ -16,10 +16,11 @@ use mathlib.Core.Bool.{false}
 use mathlib.Core.List.{List, [], _∷_}
 use lib.ListN.{take, replicate}
 use Prim.Native.String.{String}
+use Rattle.limits.specs.Limits.{recordBytes}
 use Rattle.basics.specs.Folds.{keep, upTo}
 use Rattle.basics.specs.Quoted.{bytes}
 use Rattle.basics.specs.Told.{Told, values, refusal}
-use Rattle.records.specs.Layout.{recordBytes, wireAt}
+use Rattle.records.specs.Layout.{wireAt}
 use Rattle.counts.specs.Counts.{binom}
 use Rattle.wires.specs.declared.Notion.{Notion}
 use Rattle.sets.specs.Answers.{setCount, setFromRank, rankFromSet, jobRanks}

@@ -14,9 +14,10 @@ use borrow.Author.Tests.{ltb-false, lt-ltb, le-ltb}
 use lib.Dec.{ltb}
 use lib.ListN.{length, take, drop, length-append}
 use lib.Seq.{take-at}
+use Rattle.limits.specs.Limits.{recordBytes}
 use Rattle.basics.specs.Told.{values}
 use Rattle.basics.proofs.Tests.{or-left, or-right, or-none}
-use Rattle.records.specs.Layout.{recordBytes, wires}
+use Rattle.records.specs.Layout.{wires}
 use Rattle.table.specs.Answers.{tableCheck}
 use Rattle.description.specs.Listing.{recordsOf}
 use Rattle.description.specs.Grammar.{Description, Spells, Limits, wiresOf, maskCount}

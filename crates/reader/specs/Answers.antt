@@ -13,10 +13,11 @@ use mathlib.Core.Bool.{Bool, cond, _||_}
 use mathlib.Core.List.{List, [], _∷_, _++_}
 use lib.Dec.{ltb, leb}
 use lib.ListN.{length, take, drop}
+use Rattle.limits.specs.Limits.{recordBytes, maxWires}
 use Rattle.basics.specs.Told.{Told, values, refusal}
-use Rattle.records.specs.Layout.{recordBytes, recordAt, wireCount, offsetOf, lengthOf}
+use Rattle.records.specs.Layout.{recordAt, wireCount, offsetOf, lengthOf}
 use Rattle.table.specs.Answers.{wrongLength}
-use Rattle.description.specs.Listing.{maxWires, recordsOf}
+use Rattle.description.specs.Listing.{recordsOf}
 use Rattle.description.specs.Run.{refusalNumber, Reading, read, turnedDown, reading}
 use Rattle.reader.specs.declared.ReadAnswer.{ReadAnswer}
 use Rattle.reader.specs.declared.PartRefusal.{PartRefusal}

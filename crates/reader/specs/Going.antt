@@ -16,9 +16,11 @@ use mathlib.Core.Bool.{false, cond}
 use mathlib.Core.List.{List, [], _∷_}
 use lib.Dec.{ltb}
 use lib.ListN.{length, take, drop, getD}
-use Rattle.records.specs.Layout.{recordBytes, noSum}
+use Rattle.limits.specs.Limits.{recordBytes, maxWires}
+use Rattle.records.specs.Layout.{noSum}
+use Rattle.records.specs.Symbols.{Small}
 use Rattle.description.specs.Bytes.{space, lineEnd, closing}
-use Rattle.description.specs.Listing.{maxWires, recordsOf, emptyGroup}
+use Rattle.description.specs.Listing.{recordsOf, emptyGroup}
 use Rattle.description.specs.Header.{masksLine}
 use Rattle.description.specs.Run.{Around, State, start, done, refused, runAt, maxText, maxDepth}
 use Rattle.description.specs.Run.{Reading, read, turnedDown, listed, afterMasks, reading}
@@ -27,7 +29,7 @@ use Rattle.description.specs.declared.Listed.{Listed}
 use Rattle.description.specs.declared.Masks.{Masks}
 use Rattle.description.specs.declared.Refusal.{Refusal}
 use Rattle.listing.specs.declared.Progress.{Progress}
-use Rattle.listing.specs.Progress.{Small, Stands}
+use Rattle.listing.specs.Progress.{Stands}
 use Rattle.reader.specs.declared.ReadAnswer.{ReadAnswer}
 use Rattle.reader.specs.declared.groups.Answer.{Answer}
 use Rattle.reader.specs.declared.groups.Answer.the-variants.{Went, Stopped}

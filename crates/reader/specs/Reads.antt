@@ -7,10 +7,11 @@ use mathlib.Core.Path.{_≡_}
 use mathlib.Core.Logic.{_↔_}
 use mathlib.Core.List.{List, [], _∷_, _++_, map}
 use lib.ListN.{length, take}
+use Rattle.limits.specs.Limits.{recordBytes, maxWires}
 use Rattle.basics.specs.Told.{values}
-use Rattle.records.specs.Layout.{recordBytes, wires}
+use Rattle.records.specs.Layout.{wires}
 use Rattle.table.specs.Answers.{tableCheck}
-use Rattle.description.specs.Listing.{maxWires, recordsOf, wireOf}
+use Rattle.description.specs.Listing.{recordsOf, wireOf}
 use Rattle.description.specs.Grammar.{Description, Spells, Limits, wiresOf, maskCount}
 use Rattle.description.specs.declared.Listed.{Listed}
 use Rattle.description.specs.declared.Refusal.{Refusal}

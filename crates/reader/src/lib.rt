@@ -8,10 +8,10 @@ ghost use mathlib.Core.List.{_++_};
 ghost use Rattle.reader.specs.Answers.{readTold, readText, partRefusalNumber, partTold, partCheck, textPart, partStart};
 ghost use Rattle.reader.specs.Reads.{ReadsGrammar};
 use description::Refusal;
-use listing::MAX_WIRES;
-use records::layout::RECORD_BYTES;
+use limits::MAX_TABLE_BYTES;
+use limits::MAX_WIRES;
+use limits::RECORD_BYTES;
 use records::layout::text_place;
-use table::MAX_TABLE_BYTES;
 
 mod groups;
 mod lines;

@@ -9,12 +9,12 @@ use super::groups::Answer;
 use super::groups::group;
 use description::PlacedSymbol;
 use description::Refusal;
-use description::Symbol;
 use listing::Progress;
 use listing::empty_group;
 use listing::end_line;
 use records::sums::nothing;
 use tokens::bytes::line_ends;
+use wires::Symbol;
 
 // How many parentheses may be open at once.
 pub const MAX_DEPTH: usize = 16;

@@ -25,6 +25,7 @@ use lib.Dec.{ltb, leb, eqb}
 use lib.ListN.{length, length-replicate, take, drop, getD}
 use lib.Seq.{take-at, take-append-seam}
 use borrow.Author.Tests.{le-leb, le-ltb, lt-ltb, ltb-true, ltb-false, eq-eqb}
+use Rattle.limits.specs.Limits.{maxTableBytes, maxWires}
 use Rattle.basics.specs.Folds.{keep, oneIf}
 use Rattle.basics.specs.Quoted.{bytes}
 use Rattle.basics.specs.Told.{Lent, values, refusal}
@@ -38,7 +39,7 @@ use Rattle.watcher.proofs.Bits.{pick, pick-map}
 use Rattle.watcher.proofs.Choice.{choice}
 use Rattle.records.specs.Layout.{wireAt, wireCount, wires}
 use Rattle.sets.specs.Order.{rankOf}
-use Rattle.table.specs.Answers.{maxTableBytes, tableCheck, functionCheck}
+use Rattle.table.specs.Answers.{tableCheck, functionCheck}
 use Rattle.table.proofs.Entries.{accepted, accepted-exactly, tested-answer}
 use Rattle.verdict.specs.Search.{searched, isBreaking}
 use Rattle.verdict.specs.Answers.{notionOf, written, firstShown, verdictOf}
@@ -49,7 +50,7 @@ use Rattle.verdict.proofs.First.{first-is}
 use Rattle.verdict.proofs.Accepting.{verdict-answered, verdict-ordered, verdict-accepts}
 use Rattle.description.specs.declared.Listed.{Listed}
 use Rattle.description.specs.declared.Refusal.{Refusal}
-use Rattle.description.specs.Listing.{maxWires, recordsOf}
+use Rattle.description.specs.Listing.{recordsOf}
 use Rattle.description.specs.Grammar.{Description, Spells, Limits, wiresOf}
 use Rattle.description.specs.Run.{Reading, read, turnedDown, reading, refusalNumber}
 use Rattle.description.proofs.Encoding.{length-records}

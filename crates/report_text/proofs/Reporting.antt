@@ -14,9 +14,9 @@ use mathlib.Core.List.{List, [], _∷_, _++_}
 use lib.ListN.{length, take, drop}
 use lib.Seq.{take-length}
 use borrow.Author.Tests.{lt-ltb, le-ltb}
+use Rattle.limits.specs.Limits.{recordBytes}
 use Rattle.basics.specs.Quoted.{bytes}
 use Rattle.basics.specs.Told.{Lent, values, turnedDown}
-use Rattle.records.specs.Layout.{recordBytes}
 use Rattle.description.specs.Run as description
 use Rattle.reader.specs.declared.ReadAnswer.{ReadAnswer}
 use Rattle.reader.specs.Answers.{ReadLent, readTold, readText}

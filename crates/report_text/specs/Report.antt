@@ -15,10 +15,10 @@ use mathlib.Core.Bool.{Bool, false, cond}
 use mathlib.Core.List.{List, [], _∷_, _++_}
 use lib.Dec.{eqb, ltb}
 use lib.ListN.{length, take, replicate}
+use Rattle.limits.specs.Limits.{recordBytes, maxTableBytes}
 use Rattle.basics.specs.Quoted.{bytes}
 use Rattle.basics.specs.Told.{Told, Lent, values, refusal, turnedDown}
-use Rattle.records.specs.Layout.{recordBytes}
-use Rattle.table.specs.Answers.{maxTableBytes, functionCheck}
+use Rattle.table.specs.Answers.{functionCheck}
 use Rattle.verdict.specs.Answers.{verdictOf, written}
 use Rattle.sets.specs.Answers.{maxSize}
 use Rattle.reader.specs.Answers.{ReadTold, gives, refused, ReadLent, readText}

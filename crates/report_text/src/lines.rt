@@ -6,14 +6,14 @@ ghost use Rattle.table.specs.Answers.{functionCheck};
 ghost use Rattle.verdict.specs.Answers.{verdictOf};
 ghost use Rattle.pages.specs.Page.{Wrote};
 ghost use Rattle.report_text.specs.Report.{orderLine, saysYes, functionLine, notionName, emptySet, verdictSaid, notionLine, checked, refusedLine, report};
+use limits::MAX_TABLE_BYTES;
+use limits::RECORD_BYTES;
 use pages::write_named;
 use pages::write_text;
 use pages::write_wires;
 use reader::ReadAnswer;
-use records::layout::RECORD_BYTES;
 use sets::MAX_SIZE;
 use table::FunctionAnswer;
-use table::MAX_TABLE_BYTES;
 use verdict::VerdictAnswer;
 
 // The whole report on a text.

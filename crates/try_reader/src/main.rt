@@ -5,9 +5,9 @@
 ghost use mathlib.Core.Path.{_≡_};
 ghost use Prim.Native.Nat.{_≤_, _<_};
 ghost use lib.ListN.{length};
+use limits::RECORD_BYTES;
 use reader::PartAnswer;
 use reader::ReadAnswer;
-use records::layout::RECORD_BYTES;
 use try_cases::case_end;
 use try_cases::wide;
 

@@ -3,7 +3,7 @@
 // writes the input, and works the output out by trying every value of shares and masks.
 ghost use Prim.Native.Nat.{_≤_, _<_};
 ghost use Rattle.records.specs.Layout.{wireCount};
-use records::layout::RECORD_BYTES;
+use limits::RECORD_BYTES;
 use records::sums;
 use table::FunctionAnswer;
 use table::Refusal;

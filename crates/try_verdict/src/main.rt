@@ -4,7 +4,7 @@
 // and works the output out from the scope.
 ghost use Prim.Native.Nat.{_≤_, _<_};
 ghost use lib.ListN.{length};
-use records::layout::RECORD_BYTES;
+use limits::RECORD_BYTES;
 use sets::CountAnswer;
 use sets::JobAnswer;
 use try_cases::case_end;
@@ -13,7 +13,7 @@ use verdict::RangeAnswer;
 use verdict::Refusal;
 use verdict::VerdictAnswer;
 
-mod limits;
+mod edges;
 
 const STDIN: i32 = 0;
 
@@ -38,7 +38,7 @@ fn main() {
     let mut cases = [0u8; INPUT_BYTES];
     let end = io::read_full(STDIN, &mut cases);
     each(&cases[0..end]);
-    limits::all();
+    edges::all();
 }
 
 // One case after the other.

@@ -8,7 +8,7 @@ ghost use Rattle.verdict.specs.Answers.{refusalNumber, openedTold, opens
 ghost use Rattle.verdict.specs.First.{VerdictFinds, RangeFinds};
 ghost use Rattle.verdict.specs.Guarantee.{Guarantee};
 use counts::count;
-use records::layout::RECORD_BYTES;
+use limits::RECORD_BYTES;
 use sets::MAX_SIZE;
 use table::TableAnswer;
 use table::table_check;

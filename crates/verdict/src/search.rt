@@ -8,7 +8,7 @@ ghost use Rattle.sets.specs.Order.{setAt};
 ghost use Rattle.records.specs.Layout.{wireCount};
 ghost use Rattle.verdict.specs.Search.{searched, isBreaking, FirstSet, FirstRank};
 use counts::count;
-use records::layout::RECORD_BYTES;
+use limits::RECORD_BYTES;
 use records::sums;
 use sets::order;
 use wires::Notion;
