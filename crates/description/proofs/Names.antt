@@ -14,7 +14,7 @@ use borrow.Author.Tests.{ltb-true, ltb-false, leb-true, eqb-true, eqb-false, lt-
 use lib.Arith.{digits-div, digits-mod}
 use lib.Dec.{eqb, ltb, leb}
 use lib.ListN.{length, drop}
-use Rattle.basics.specs.Folds.{every, upTo}
+use Rattle.basics.specs.Folds.{upTo}
 use Rattle.basics.proofs.Folds.{every-at}
 use Rattle.basics.proofs.Tests.{and-left, and-right, and-both, or-none}
 use Rattle.description.specs.Bytes.{letterR, digit, figure, parts}

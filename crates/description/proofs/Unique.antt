@@ -4,22 +4,20 @@ use Prim.Native.Nat.{ℕ, _+_, _-_, _<_}
 use native.Mathlib.Omega.{arith}
 use mathlib.Core.Path.{_≡_, refl, sym, _∙_, ap, ap₂, subst}
 use mathlib.Core.Bool.{Bool, true, false, cond, _||_}
-use mathlib.Core.List.{List, [], _∷_, _++_, append-nil, append-assoc}
+use mathlib.Core.List.{List, [], _∷_, _++_, append-assoc}
 use borrow.Author.Tests.{leb-true}
 use lib.Dec.{eqb, leb}
 use lib.ListN.{length, drop, getD, take-append-drop}
 use lib.Seq.{drop-at, drop-length}
 use Rattle.basics.specs.Folds.{every}
 use Rattle.basics.proofs.Tests.{and-left, and-right}
-use Rattle.description.specs.Bytes.{space, lineEnd, opening, closing, comma, bracket, letterS, letterA, letterB, letterR, figure, word}
+use Rattle.description.specs.Bytes.{space, lineEnd, opening, closing, comma, bracket, letterR, figure, word}
 use Rattle.description.specs.Symbols.{maxMask, maskName, nameLength, spelling, formed, symbolLength, maskAt}
 use Rattle.description.specs.Run.{placed}
 use Rattle.description.specs.Grammar.{Items, none, symbol, group, Description, Byte, Bytes, counted, further-names, joined, headerText}
 use Rattle.description.specs.Grammar.{Spelled, end, spaced, a-symbol, a-group, Lines, last, line, Spells}
 use Rattle.wires.specs.declared.Symbol.{Symbol}
-use Rattle.wires.specs.declared.Symbol.the-variants.{Product, ShareA, ShareB, Mask}
-use Rattle.description.specs.declared.MaskName.{MaskName}
-use Rattle.description.specs.declared.MaskName.the-variants.{Number, NoName}
+use Rattle.description.specs.declared.MaskName.the-variants.{Number}
 use Rattle.description.proofs.Names.{name-length, digitHere, name-read}
 use Rattle.description.proofs.Spelling.{spelling-length, spelledBy, spelling-back}
 use Rattle.description.proofs.Places.{byte-inside, bytes-rest, word-joined, joined-byte}

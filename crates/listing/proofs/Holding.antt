@@ -3,7 +3,7 @@
 --     outer-none, outer-newest, outer-full            no wire to be made outer, the newest, one that is not in the table
 use Prim.Native.Nat.{ℕ, suc, _+_, _*_, _-_, _≤_, _<_}
 use native.Mathlib.Omega.{arith}
-use mathlib.Core.Path.{_≡_, refl, sym, _∙_, ap}
+use mathlib.Core.Path.{_≡_, sym, _∙_, ap}
 use mathlib.Core.List.{List, [], _∷_, _++_, reverse, reverse-cons, append-nil}
 use lib.ListN.{length, take, drop, length-append, length-reverse}
 use lib.Seq.{sets, sets-eq, take-at, length-take-le}

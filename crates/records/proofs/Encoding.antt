@@ -7,7 +7,7 @@
 --     record-kind, record-line, record-offset, record-length     what a record says
 --     terms-decoded, outer-decoded     the terms of a record, and whether it is that of an outer wire
 --     made-outer                       a record whose wire is made the outer one of a line
-use Prim.Native.Nat.{ℕ, zero, suc, _+_, _*_, _/_, _^_, _≤_, _<_}
+use Prim.Native.Nat.{ℕ, zero, suc, _/_, _^_, _≤_, _<_}
 use native.Mathlib.Omega.{arith}
 use mathlib.Core.Path.{_≡_, refl, _∙_, ap, ap₂}
 use mathlib.Core.Bool.{Bool, true, false}

@@ -1,7 +1,6 @@
 // Symbols as they are read.
 ghost use mathlib.Core.Path.{_≡_};
-ghost use mathlib.Core.Bool.{true};
-ghost use Prim.Native.Nat.{_≤_, _<_, _+_};
+ghost use Prim.Native.Nat.{_≤_};
 ghost use lib.ListN.{length};
 ghost use Rattle.description.specs.Symbols.{maskAt, shareFigure, shareOf, shareDigit, namedRead, symbolRead};
 ghost use Rattle.tokens.specs.Digits.{isProduct, isShare};
