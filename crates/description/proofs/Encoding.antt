@@ -1,36 +1,33 @@
 -- What is encoded is decoded: the records of wires, and the wires of those records.
---     length-encode, length-records    a record has 24 bytes, and so many records have 24 each
+--     length-encode, length-records    the bytes of a record, and of so many
 --     records-append                   the records of wires in two parts
---     number-bytes                     a number below 256 ^ size is that of its bytes
---     SmallSum, Bounded                the words of a sum, the fields of a wire, fit into the bytes of a record
---     flag-low                         the byte of inner or outer is 0 or 1
+--     Bounded                          the fields of a wire fit into the bytes of a record
 --     encoded-outer, encoded-line, encoded-offset, encoded-length     what the record of a bounded wire says
 --     decoded                          the record of a bounded wire is decoded to the wire
 --     record-of, record-count          the record at a place, and how many there are
-use Prim.Native.Nat.{ℕ, zero, suc, _+_, _*_, _/_, _^_, _≤_, _<_}
+use Prim.Native.Nat.{ℕ, zero, suc, _+_, _*_, _/_, _<_}
 use native.Mathlib.Nat.{not-suc-le-zero, le-of-suc-le-suc}
 use native.Mathlib.Omega.{arith}
 use mathlib.Core.Path.{_≡_, refl, sym, _∙_, ap, ap₂}
-use mathlib.Core.Bool.{Bool, true, false}
+use mathlib.Core.Bool.{Bool}
 use mathlib.Core.List.{List, [], _∷_, _++_, append-assoc}
-use lib.Dec.{eqb}
 use lib.ListN.{length, take, drop, getD, length-append}
 use lib.Seq.{take-at, drop-append-add}
+use Rattle.limits.specs.Limits.{recordBytes}
 use Rattle.basics.specs.Folds.{oneIf}
-use Rattle.wires.specs.Wires.{Terms, Wire}
-use Rattle.records.specs.Words.{number}
-use Rattle.records.specs.Layout.{field, decodeTerms, decode, lineOf, offsetOf, lengthOf, recordAt, wireCount, termsOf}
-use Rattle.records.specs.declared.sums.Sum.{Sum}
-use Rattle.description.specs.Listing.{bytesOf, encode, recordsOf, wireOf}
+use Rattle.wires.specs.Wires.{Terms}
+use Rattle.records.specs.Layout.{decode, kindOf, lineOf, offsetOf, lengthOf, recordAt, wireCount}
+use Rattle.records.proofs.Encoding.{Fits, length-record, record-kind, record-line, record-offset, record-length, terms-decoded, outer-decoded}
+use Rattle.description.specs.Listing.{encode, recordsOf, wireOf}
 use Rattle.description.specs.declared.Listed.{Listed}
 
 -- ---- lengths
 
-pub length-encode : (w : Listed) → length (encode w) ≡ 24
+pub length-encode : (w : Listed) → length (encode w) ≡ recordBytes
 unfolding encode
-length-encode w = refl
+length-encode w = length-record (w .sum) (w .outer) (w .line) (w .offset) (w .length)
 
-pub length-records : (ws : List Listed) → length (recordsOf ws) ≡ 24 * length ws
+pub length-records : (ws : List Listed) → length (recordsOf ws) ≡ recordBytes * length ws
 length-records [] = refl
 length-records (w ∷ ws) =
     let one = length-encode w in
@@ -44,73 +41,46 @@ records-append (v ∷ vs) ws =
 
 -- ---- the fields
 
-pub number-bytes : (size n : ℕ) → n < 256 ^ size → number (bytesOf size n) ≡ n
-number-bytes zero n h = omega (arith, h)
-number-bytes (suc size) n h =
-    let upper = number-bytes size (n / 256) (omega (arith, h)) in
-    omega (arith, upper)
-
-pub record SmallSum (s : Sum) : Type 0 where
-  pub products : s .products < 2 ^ 64
-  pub masks : s .masks < 2 ^ 64
-  pub ofA : s .«shares_a» < 256
-  pub ofB : s .«shares_b» < 256
-
 pub record Bounded (w : Listed) : Type 0 where
-  pub sum : SmallSum (w .sum)
+  pub sum : Fits (w .sum)
   pub line : w .line < 256
   pub offset : w .offset < 65536
   pub length : w .length < 65536
 
-pub flag-low : (b : Bool) → oneIf b ≤ 1
-flag-low true = omega arith
-flag-low false = omega arith
-
-pub encoded-outer : (w : Listed) → field 18 1 (encode w) ≡ oneIf (w .outer)
+pub encoded-outer : (w : Listed) → kindOf (encode w) ≡ oneIf (w .outer)
 unfolding encode
-encoded-outer w = number-bytes 1 (oneIf (w .outer)) (omega (arith, flag-low (w .outer)))
+encoded-outer w = record-kind (w .sum) (w .outer) (w .line) (w .offset) (w .length)
 
 module _ (w : Listed) (h : Bounded w) where
   pub encoded-line : lineOf (encode w) ≡ w .line
   unfolding encode
-  encoded-line = number-bytes 1 (w .line) (h .line)
+  encoded-line = record-line (w .sum) (w .outer) (w .line) (w .offset) (w .length) (h .line)
 
   pub encoded-offset : offsetOf (encode w) ≡ w .offset
   unfolding encode
-  encoded-offset = number-bytes 2 (w .offset) (h .offset)
+  encoded-offset = record-offset (w .sum) (w .outer) (w .line) (w .offset) (w .length) (h .offset)
 
   pub encoded-length : lengthOf (encode w) ≡ w .length
   unfolding encode
-  encoded-length = number-bytes 2 (w .length) (h .length)
-
-  terms-decoded : decode (encode w) .terms ≡ termsOf (w .sum)
-  unfolding encode
-  terms-decoded =
-      ap₂ (λ (p m : ℕ). decodeTerms p m (field 16 1 (encode w)) (field 17 1 (encode w))) (number-bytes 8 (w .sum .products) (h .sum .products))
-      (number-bytes 8 (w .sum .masks) (h .sum .masks))
-      ∙ ap₂ (λ (a b : ℕ). decodeTerms (w .sum .products) (w .sum .masks) a b) (number-bytes 1 (w .sum .«shares_a») (h .sum .ofA))
-      (number-bytes 1 (w .sum .«shares_b») (h .sum .ofB))
-
-  outer-decoded : decode (encode w) .outer ≡ w .outer
-  outer-decoded = ap (λ (n : ℕ). eqb n 1) (encoded-outer w) ∙ told (w .outer)
-    where
-      told : (b : Bool) → eqb (oneIf b) 1 ≡ b
-      told true = refl
-      told false = refl
+  encoded-length = record-length (w .sum) (w .outer) (w .line) (w .offset) (w .length) (h .length)
 
   pub decoded : decode (encode w) ≡ wireOf w
-  decoded = ap₂ (λ (t : Terms) (b : Bool). record { terms = t; outer = b }) terms-decoded outer-decoded
+  unfolding encode
+  decoded =
+      ap₂ (λ (t : Terms) (b : Bool). record { terms = t; outer = b })
+      (terms-decoded (w .sum) (w .outer) (w .line) (w .offset) (w .length) (h .sum))
+      (outer-decoded (w .sum) (w .outer) (w .line) (w .offset) (w .length))
 
 -- ---- the records of a list
 
 pub record-of : (ws : List Listed) (k : ℕ) (d : Listed) → k < length ws → recordAt (recordsOf ws) k ≡ encode (getD ws k d)
 record-of [] k d h = absurd (not-suc-le-zero h)
-record-of (w ∷ ws) zero d h = take-at (encode w) (recordsOf ws) 24 (length-encode w)
+record-of (w ∷ ws) zero d h = take-at (encode w) (recordsOf ws) recordBytes (length-encode w)
 record-of (w ∷ ws) (suc k) d h =
     let one = length-encode w in
-    let place : 24 * suc k ≡ length (encode w) + 24 * k = omega (arith, one) in
-    ap (λ (n : ℕ). take 24 (drop n (encode w ++ recordsOf ws))) place ∙ ap (take 24) (drop-append-add (encode w) (recordsOf ws) (24 * k))
+    let place : recordBytes * suc k ≡ length (encode w) + recordBytes * k = omega (arith, one) in
+    ap (λ (n : ℕ). take recordBytes (drop n (encode w ++ recordsOf ws))) place ∙ ap (take recordBytes) (drop-append-add (encode w) (recordsOf ws) (recordBytes * k))
     ∙ record-of ws k d (le-of-suc-le-suc h)
 
 pub record-count : (ws : List Listed) → wireCount (recordsOf ws) ≡ length ws
-record-count ws = let all = length-records ws in ap (λ (n : ℕ). n / 24) all ∙ omega arith
+record-count ws = let all = length-records ws in ap (λ (n : ℕ). n / recordBytes) all ∙ omega arith

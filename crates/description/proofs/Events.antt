@@ -23,7 +23,7 @@ use Rattle.description.specs.Listing.{symbolWire}
 use Rattle.description.specs.Run.{newestOuter}
 use Rattle.description.specs.Grammar.{Items, none, symbol, group, empty, uses, symbols, known, sameSymbol}
 use Rattle.description.specs.Grammar.{Event, used, addition, worked, further, eventWires, lastOuter, additionOf}
-use Rattle.description.specs.declared.Symbol.{Symbol}
+use Rattle.wires.specs.declared.Symbol.{Symbol}
 use Rattle.description.specs.declared.PlacedSymbol.{PlacedSymbol}
 use Rattle.description.specs.declared.Listed.{Listed}
 

@@ -12,7 +12,7 @@ use borrow.Author.Tests.{le-ltb, ltb-false}
 use lib.Dec.{ltb}
 use lib.ListN.{length, drop}
 use Rattle.description.specs.Header.{orderLine, masksLine}
-use Rattle.description.specs.Run.{read, turnedDown, reading, listed, afterMasks, afterOrder, Outcome, done, refused, runAt, start, maxText}
+use Rattle.description.specs.Run.{read, turnedDown, reading, listed, afterMasks, afterOrder, Outcome, done, refused, runAt, start, secondAt, maxText}
 use Rattle.description.specs.Grammar.{Description, Spells, Limits, Lines, wiresOf, maskCount, headerText}
 use Rattle.description.specs.declared.Listed.{Listed}
 use Rattle.description.specs.declared.Masks.{Masks}
@@ -74,7 +74,7 @@ read-spelled text order masks ws e = by-length (ltb maxText (length text)) refl 
         })
         (record { short = short; line-count = ls .count; shallow = ls .shallow; all-known = ls .allowed })
 
-    by-masks : length text ≤ maxText → (n : ℕ) → orderLine text ≡ OrderLine.Order n → (line : MasksLine) → masksLine 10 (drop 10 text) ≡ line
+    by-masks : length text ≤ maxText → (n : ℕ) → orderLine text ≡ OrderLine.Order n → (line : MasksLine) → masksLine secondAt (drop secondAt text) ≡ line
         → afterMasks text n line ≡ read order masks ws → SpelledBy text order masks ws
     by-masks short n h MasksLine.Wrong f g = let z : _≡_ {A = ℕ} 0 1 = cc in absurd (omega (arith, z))
     by-masks short n h (MasksLine.Declared m) f g =
@@ -83,7 +83,7 @@ read-spelled text order masks ws e = by-length (ltb maxText (length text)) refl 
     by-order : length text ≤ maxText → (line : OrderLine) → orderLine text ≡ line → afterOrder text line ≡ read order masks ws
         → SpelledBy text order masks ws
     by-order short OrderLine.Wrong f g = let z : _≡_ {A = ℕ} 0 1 = cc in absurd (omega (arith, z))
-    by-order short (OrderLine.Order n) f g = by-masks short n f (masksLine 10 (drop 10 text)) refl g
+    by-order short (OrderLine.Order n) f g = by-masks short n f (masksLine secondAt (drop secondAt text)) refl g
 
     by-length : (long : Bool) → ltb maxText (length text) ≡ long
         → cond long (turnedDown TextTooLong maxText) (afterOrder text (orderLine text)) ≡ read order masks ws → SpelledBy text order masks ws

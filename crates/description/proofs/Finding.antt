@@ -22,7 +22,7 @@ use Rattle.description.specs.Symbols.{spelling, formed, symbolLength}
 use Rattle.description.specs.Run.{Around, maxDepth, placed}
 use Rattle.description.specs.Grammar.{Items, none, symbol, group, Byte, Bytes, empty, counted, symbols, depth, known}
 use Rattle.description.specs.Grammar.{Spelled, end, spaced, a-symbol, a-group, Lines, last, line}
-use Rattle.description.specs.declared.Symbol.{Symbol}
+use Rattle.wires.specs.declared.Symbol.{Symbol}
 use Rattle.description.proofs.Numbers.{larger-max}
 use Rattle.description.proofs.Events.{group-known}
 

@@ -11,24 +11,27 @@ use mathlib.Core.Bool.{Bool, true, false, cond, _&&_, true≢false, false≢true
 use mathlib.Core.List.{List, [], _∷_, _++_}
 use lib.Dec.{leb}
 use lib.ListN.{length, getD}
+use Rattle.limits.specs.Limits.{maxShares, maxMasks}
 use Rattle.basics.specs.Folds.{every, some}
 use Rattle.basics.proofs.Folds.{fold-append}
 use Rattle.basics.proofs.Tests.{and-left, and-right, and-both}
 use Rattle.wires.specs.Wires.{beyond}
 use Rattle.wires.proofs.Narrow.{Within, not-beyond}
 use Rattle.records.specs.Layout.{termsOf}
+use Rattle.records.specs.Symbols.{symbolSum}
 use Rattle.records.specs.declared.sums.Sum.{Sum}
-use Rattle.description.specs.Symbols.{symbolLength, symbolSum}
+use Rattle.records.proofs.Encoding as Encoding
+use Rattle.description.specs.Symbols.{maxMask, symbolLength}
 use Rattle.description.specs.Listing.{symbolWire, madeOuter, outerWire}
 use Rattle.description.specs.Run.{maxText}
 use Rattle.description.specs.Grammar.{Items, symbol, Description, Spelled, end, spaced, a-symbol, a-group, empty, counted, Lines, last, line}
 use Rattle.description.specs.Grammar.{Spells, Limits, uses, symbols, Event, used, addition, worked, further, sumOf, sameSymbol, eventWires}
 use Rattle.description.specs.Grammar.{lastOuter, outered, lineWires, linesWires, wiresOf, maskCount, known}
-use Rattle.description.specs.declared.Symbol.{Symbol}
+use Rattle.wires.specs.declared.Symbol.{Symbol}
 use Rattle.description.specs.declared.PlacedSymbol.{PlacedSymbol}
 use Rattle.description.specs.declared.Listed.{Listed}
 use Rattle.description.proofs.Events.{known-group}
-use Rattle.description.proofs.Encoding.{SmallSum, Bounded}
+use Rattle.description.proofs.Encoding.{Bounded}
 use Rattle.description.proofs.Sums.{symbol-small, symbol-within, sum-small, sum-within}
 
 module _ {A : Type 0} where
@@ -71,12 +74,12 @@ module _ {text : List ℕ} where
 
 pub record Fits (text : List ℕ) (shares masks : ℕ) (w : Listed) : Type 0 where
   pub bounded : Bounded w
-  pub none-beyond : beyond 8 64 shares masks (termsOf (w .sum)) ≡ false
+  pub none-beyond : beyond maxShares maxMasks shares masks (termsOf (w .sum)) ≡ false
   pub part-within : w .offset + w .length ≤ length text
   pub outer-line : w .outer ≡ true → w .line < shares
   pub inner-line : w .outer ≡ false → w .line ≡ 0
 
-module _ (text : List ℕ) (short : length text ≤ maxText) (n : ℕ) (few : n ≤ 8) (names : List ℕ) (low : every (λ k. leb k 63) names ≡ true) where
+module _ (text : List ℕ) (short : length text ≤ maxText) (n : ℕ) (few : n ≤ maxShares) (names : List ℕ) (low : every (λ k. leb k maxMask) names ≡ true) where
   abbrev UseFits : PlacedSymbol → Type 0
   UseFits p = (known n names (p .symbol) ≡ true) × (p .place + symbolLength (p .symbol) ≤ length text)
 
@@ -140,11 +143,11 @@ module _ (text : List ℕ) (short : length text ≤ maxText) (n : ℕ) (few : n 
   abbrev Fit : Listed → Type 0
   Fit = Fits text n (maskCount names)
 
-  inner-fits : (s : Sum) (offset size : ℕ) → SmallSum s → Within 8 64 n (maskCount names) (termsOf s) → offset + size ≤ length text
+  inner-fits : (s : Sum) (offset size : ℕ) → Encoding.Fits s → Within maxShares maxMasks n (maskCount names) (termsOf s) → offset + size ≤ length text
       → Fit (record { sum = s; outer = false; line = 0; offset = offset; length = size })
   inner-fits s offset size small inside h = record {
     bounded = record { sum = small; line = omega arith; offset = omega (arith, h, short); length = omega (arith, h, short) };
-    none-beyond = not-beyond 8 64 n (maskCount names) (termsOf s) inside;
+    none-beyond = not-beyond maxShares maxMasks n (maskCount names) (termsOf s) inside;
     part-within = h;
     outer-line = λ e. absurd (false≢true e);
     inner-line = λ e. refl;
@@ -153,7 +156,7 @@ module _ (text : List ℕ) (short : length text ≤ maxText) (n : ℕ) (few : n 
   symbol-fits : (p : PlacedSymbol) → UseFits p → Fit (symbolWire p)
   symbol-fits p h =
       inner-fits (symbolSum (p .symbol)) (p .place) (symbolLength (p .symbol)) (symbol-small n names few low (p .symbol) (h .0))
-      (symbol-within n names few (p .symbol) (h .0))
+      (symbol-within n names few low (p .symbol) (h .0))
       (h .1)
 
   outer-fits : (k : ℕ) (w : Listed) → k < n → Fit w → Fit (madeOuter k w)
@@ -175,7 +178,7 @@ module _ (text : List ℕ) (short : length text ≤ maxText) (n : ℕ) (few : n 
       go true old new = old
       go false old new = (symbol-fits p (h .0), new)
   event-wires-fit (addition l offset size ∷ es) seen h = (
-    inner-fits (sumOf l) offset size (sum-small n names few low l (h .0 .0)) (sum-within n names few l (h .0 .0)) (h .0 .1),
+    inner-fits (sumOf l) offset size (sum-small n names few low l (h .0 .0)) (sum-within n names few low l (h .0 .0)) (h .0 .1),
     event-wires-fit es seen (h .1),
   )
 

@@ -11,14 +11,15 @@ use mathlib.Core.List.{List, [], _∷_, _++_}
 use borrow.Author.Tests.{ne-eqb}
 use lib.Dec.{eqb, ltb}
 use lib.ListN.{length, drop, getD}
+use Rattle.limits.specs.Limits.{maxShares}
 use Rattle.basics.specs.Folds.{every}
 use Rattle.basics.proofs.Tests.{and-left, and-right}
 use Rattle.description.specs.Bytes.{space, opening, closing, parts, word}
 use Rattle.description.specs.Symbols.{spelling, formed, symbolLength, symbolRead}
 use Rattle.description.specs.Run.{State, runAt, maxDepth, placed, took, opened, closed}
 use Rattle.description.specs.Grammar.{Items, Bytes, empty, Spelled, end, spaced, a-symbol, a-group, depth, symbols, known}
-use Rattle.description.specs.declared.Symbol.{Symbol}
-use Rattle.description.specs.declared.Symbol.the-variants.{Product, ShareA, ShareB, Mask}
+use Rattle.wires.specs.declared.Symbol.{Symbol}
+use Rattle.wires.specs.declared.Symbol.the-variants.{Product, ShareA, ShareB, Mask}
 use Rattle.description.proofs.Running.{drop-byte}
 use Rattle.description.proofs.Spelling.{Declares, known-read, spelling-length, spelling-word}
 use Rattle.description.proofs.Numbers.{larger-max}
@@ -51,7 +52,7 @@ module _ (text : List ℕ) where
       ap word (bytes-rest text p (spelling u) b ∙ ap (λ (k : ℕ). spelling u ++ drop (p + k) text) (spelling-length u))
       ∙ spelling-word u f (drop (p + symbolLength u) text) w
 
-  module _ (shares declared : ℕ) (names : List ℕ) (few : shares ≤ 8) (d : Declares declared names) where
+  module _ (shares declared : ℕ) (names : List ℕ) (few : shares ≤ maxShares) (d : Declares declared names) where
     not-all : (s : State) → s .lines < shares → eqb (s .lines) shares ≡ false
     not-all s h = ne-eqb (s .lines) shares (λ e. omega (arith, e, h))
 

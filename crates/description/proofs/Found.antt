@@ -10,6 +10,7 @@ use borrow.Author.Tests.{eqb-false, not-true}
 use lib.Dec.{eqb}
 use lib.ListN.{length, drop, getD}
 use lib.Seq.{drop-drop}
+use Rattle.limits.specs.Limits.{maxShares}
 use Rattle.description.specs.Bytes.{space, opening, closing, parts, word}
 use Rattle.description.specs.Symbols.{spelling, symbolLength, symbolRead}
 use Rattle.description.specs.Run.{State, Around, done, runAt, maxDepth, start, placed, took, opened, closed, symbolItem, groupItem}
@@ -26,7 +27,7 @@ use Rattle.description.proofs.Following.{symbol-long, symbol-inside}
 use Rattle.description.proofs.Ends.{Sound, From, Later, turned-down, at-end, at-line}
 use Rattle.description.proofs.Finding.{read-none, read-space, read-symbol, read-group, Rest, rest-before, line-found, Found}
 
-module _ (text : List ℕ) (shares declared : ℕ) (names : List ℕ) (few : shares ≤ 8) (d : Declares declared names) where
+module _ (text : List ℕ) (shares declared : ℕ) (names : List ℕ) (few : shares ≤ maxShares) (d : Declares declared names) where
   module _ (t : State) (p : ℕ) (s : State) (sound : Sound shares s) (run : runAt shares declared text p s ≡ done t)
       (inside : p < length text) (later : Later text shares declared names t p) where
     abbrev byte : ℕ

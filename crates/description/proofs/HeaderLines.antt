@@ -11,13 +11,15 @@ use borrow.Author.Tests.{leb-true, le-leb, eqb-true}
 use lib.Dec.{eqb, leb}
 use lib.ListN.{length, take, drop, length-append, take-append-drop}
 use lib.Seq.{take-append-seam, drop-append-seam}
+use Rattle.limits.specs.Limits.{maxOrder}
 use Rattle.basics.specs.Folds.{every}
 use Rattle.basics.proofs.Tests.{and-left, and-right}
 use Rattle.records.proofs.Words.{bit-zero}
 use Rattle.description.specs.Bytes.{lineEnd, bracket, orderWord, masksWord, figure, ended, same}
 use Rattle.description.specs.Header.{orderDigit, orderLine, masksOf, closed, bracketHere, namesFrom, masksLine}
+use Rattle.description.specs.Run.{secondAt}
 use Rattle.description.specs.Grammar.{Bytes, joined, further-names, headerText, member, once, maskCount}
-use Rattle.description.specs.Symbols.{maskName}
+use Rattle.description.specs.Symbols.{maxMask, maskName}
 use Rattle.description.specs.declared.Masks.{Masks}
 use Rattle.description.specs.declared.OrderLine.{OrderLine}
 use Rattle.description.specs.declared.MasksLine.{MasksLine}
@@ -32,8 +34,8 @@ lineMasks names = masksOf (wordWith 0 names) (countWith 0 names) (19 + length (j
 
 -- ---- the second line
 
-masks-read : (names rest : List ℕ) → every (λ k. leb k 63) names ≡ true → freshIn 0 names ≡ true → ended rest ≡ true
-    → masksLine 10 (masksWord ++ (joined names ++ (bracket ∷ rest))) ≡ MasksLine.Declared (lineMasks names)
+masks-read : (names rest : List ℕ) → every (λ k. leb k maxMask) names ≡ true → freshIn 0 names ≡ true → ended rest ≡ true
+    → masksLine secondAt (masksWord ++ (joined names ++ (bracket ∷ rest))) ≡ MasksLine.Declared (lineMasks names)
 unfolding masksLine
 masks-read [] rest low new e = rw e refl
 masks-read (k ∷ ks) rest low new e =
@@ -43,7 +45,7 @@ masks-read (k ∷ ks) rest low new e =
 record ListSpelled (l : List ℕ) (m : Masks) : Type 0 where
   names : List ℕ
   rest : List ℕ
-  low : every (λ k. leb k 63) names ≡ true
+  low : every (λ k. leb k maxMask) names ≡ true
   new : freshIn 0 names ≡ true
   spelled : l ≡ joined names ++ (bracket ∷ rest)
   line-end : ended rest ≡ true
@@ -84,7 +86,7 @@ list-spelled l m e = go (bracketHere l) refl e
     go true q e = no-names l e
     go false q e = some-names (names-spelled l 0 0 19 m e)
 
-masks-spelled : (l : List ℕ) (m : Masks) → masksLine 10 l ≡ MasksLine.Declared m → (t : List ℕ) × (l ≡ masksWord ++ t) × ListSpelled t m
+masks-spelled : (l : List ℕ) (m : Masks) → masksLine secondAt l ≡ MasksLine.Declared m → (t : List ℕ) × (l ≡ masksWord ++ t) × ListSpelled t m
 unfolding masksLine
 masks-spelled l m e = go (same (take 9 l) masksWord) refl e
   where
@@ -99,7 +101,7 @@ masks-spelled l m e = go (same (take 9 l) masksWord) refl e
 
 record OrderSpelled (text : List ℕ) (order : ℕ) : Type 0 where
   rest : List ℕ
-  digit : (1 ≤ order) × (order ≤ 7)
+  digit : (1 ≤ order) × (order ≤ maxOrder)
   spelled : text ≡ orderWord ++ (figure order ∷ rest)
   line-end : ended rest ≡ true
 
@@ -109,22 +111,22 @@ order-spelled text order e = go (same (take 8 text) orderWord) refl e
   where
     digit-spelled : text ≡ orderWord ++ drop 8 text → (l : List ℕ) → drop 8 text ≡ l → orderDigit l ≡ OrderLine.Order order → OrderSpelled text order
     digit-spelled w [] p e = let z : _≡_ {A = ℕ} 0 1 = cc in absurd (omega (arith, z))
-    digit-spelled w (c ∷ l) p e = test (leb 49 c && leb c 55 && ended l) refl e
+    digit-spelled w (c ∷ l) p e = test (leb (figure 1) c && leb c (figure maxOrder) && ended l) refl e
       where
-        test : (b : Bool) → (leb 49 c && leb c 55 && ended l) ≡ b → cond b (OrderLine.Order (c - 48)) OrderLine.Wrong ≡ OrderLine.Order order
+        test : (b : Bool) → (leb (figure 1) c && leb c (figure maxOrder) && ended l) ≡ b → cond b (OrderLine.Order (c - 48)) OrderLine.Wrong ≡ OrderLine.Order order
             → OrderSpelled text order
         test false q e = let z : _≡_ {A = ℕ} 0 1 = cc in absurd (omega (arith, z))
         test true q e =
-            let both = and-left (leb 49 c && leb c 55) (ended l) q in
-            let from = leb-true 49 c (and-left (leb 49 c) (leb c 55) both) in
-            let to = leb-true c 55 (and-right (leb 49 c) (leb c 55) both) in
+            let both = and-left (leb (figure 1) c && leb c (figure maxOrder)) (ended l) q in
+            let from = leb-true (figure 1) c (and-left (leb (figure 1) c) (leb c (figure maxOrder)) both) in
+            let to = leb-true c (figure maxOrder) (and-right (leb (figure 1) c) (leb c (figure maxOrder)) both) in
             let number : c - 48 ≡ order = cc in
             let byte : c ≡ figure order = omega (arith, from, number) in
             record {
               rest = l;
               digit = (omega (arith, from, number), omega (arith, to, number));
               spelled = w ∙ ap (λ x. orderWord ++ x) (p ∙ ap {B = List ℕ} (λ x. x ∷ l) byte);
-              line-end = and-right (leb 49 c && leb c 55) (ended l) q;
+              line-end = and-right (leb (figure 1) c && leb c (figure maxOrder)) (ended l) q;
             }
 
     go : (b : Bool) → same (take 8 text) orderWord ≡ b → cond b (orderDigit (drop 8 text)) OrderLine.Wrong ≡ OrderLine.Order order
@@ -139,7 +141,7 @@ pub record HeaderRead (text : List ℕ) (order : ℕ) (m : Masks) (names : List 
   pub declares : Declares (m .declared) names
   pub count : m .count ≡ maskCount names
   pub names-once : once names ≡ true
-  pub digit : (1 ≤ order) × (order ≤ 7)
+  pub digit : (1 ≤ order) × (order ≤ maxOrder)
   pub header : Bytes text 0 (headerText order names)
   pub end : m .end ≡ length (headerText order names)
   pub header-end : ended (drop (length (headerText order names)) text) ≡ true
@@ -151,15 +153,15 @@ both-lines : (order : ℕ) (names rest : List ℕ)
 both-lines order names rest =
     ap (λ t. orderWord ++ (figure order ∷ lineEnd ∷ (masksWord ++ t))) (append-assoc (joined names) (bracket ∷ []) rest)
 
-order-read : (order : ℕ) (t : List ℕ) → 1 ≤ order → order ≤ 7 → orderLine (orderWord ++ (figure order ∷ lineEnd ∷ t)) ≡ OrderLine.Order order
+order-read : (order : ℕ) (t : List ℕ) → 1 ≤ order → order ≤ maxOrder → orderLine (orderWord ++ (figure order ∷ lineEnd ∷ t)) ≡ OrderLine.Order order
 unfolding orderLine
 order-read order t h l =
-    let from = le-leb 49 (figure order) (omega (arith, h)) in
-    let to = le-leb (figure order) 55 (omega (arith, l)) in
+    let from = le-leb (figure 1) (figure order) (omega (arith, h)) in
+    let to = le-leb (figure order) (figure maxOrder) (omega (arith, l)) in
     let back : figure order - 48 ≡ order = omega arith in
     rw (from, to) (ap OrderLine.Order back)
 
-module _ (text : List ℕ) (order : ℕ) (names rest : List ℕ) (digit : (1 ≤ order) × (order ≤ 7)) (low : every (λ k. leb k 63) names ≡ true)
+module _ (text : List ℕ) (order : ℕ) (names rest : List ℕ) (digit : (1 ≤ order) × (order ≤ maxOrder)) (low : every (λ k. leb k maxMask) names ≡ true)
     (new : freshIn 0 names ≡ true) (whole : text ≡ headerText order names ++ rest) (line-end : ended rest ≡ true) where
   line-read : HeaderRead text order (lineMasks names) names
   line-read =
@@ -178,18 +180,18 @@ module _ (text : List ℕ) (order : ℕ) (names rest : List ℕ) (digit : (1 ≤
       }
 
 pub header-spelled : (text : List ℕ) (order : ℕ) (m : Masks) → orderLine text ≡ OrderLine.Order order
-    → masksLine 10 (drop 10 text) ≡ MasksLine.Declared m → (names : List ℕ) × HeaderRead text order m names
+    → masksLine secondAt (drop secondAt text) ≡ MasksLine.Declared m → (names : List ℕ) × HeaderRead text order m names
 header-spelled text order m e f = go (first .rest) refl
   where
     first : OrderSpelled text order
     first = order-spelled text order e
 
-    second : (t : List ℕ) × (drop 10 text ≡ masksWord ++ t) × ListSpelled t m
-    second = masks-spelled (drop 10 text) m f
+    second : (t : List ℕ) × (drop secondAt text ≡ masksWord ++ t) × ListSpelled t m
+    second = masks-spelled (drop secondAt text) m f
 
     go : (l : List ℕ) → first .rest ≡ l → (names : List ℕ) × HeaderRead text order m names
     go [] p =
-        let none : drop 10 text ≡ [] = ap (drop 10) (first .spelled ∙ ap (λ l. orderWord ++ (figure order ∷ l)) p) in
+        let none : drop secondAt text ≡ [] = ap (drop secondAt) (first .spelled ∙ ap (λ l. orderWord ++ (figure order ∷ l)) p) in
         let counts : 0 ≡ length (masksWord ++ second .0) = ap length (sym none ∙ second .1) in
         absurd (omega (arith, counts))
     go (c ∷ l) p =
@@ -197,7 +199,7 @@ header-spelled text order m e f = go (first .rest) refl
         let parts : text ≡ orderWord ++ (figure order ∷ c ∷ l) = first .spelled ∙ ap (λ l. orderWord ++ (figure order ∷ l)) p in
         let r = second .2 in
         let listed : l ≡ masksWord ++ (joined (r .names) ++ (bracket ∷ r .rest)) =
-        sym (ap (drop 10) parts) ∙ second .1 ∙ ap (λ t. masksWord ++ t) (r .spelled) in
+        sym (ap (drop secondAt) parts) ∙ second .1 ∙ ap (λ t. masksWord ++ t) (r .spelled) in
         let whole : text ≡ headerText order (r .names) ++ r .rest =
         parts ∙ ap₂ {C = List ℕ} (λ x y. orderWord ++ (figure order ∷ x ∷ y)) line listed ∙ sym (both-lines order (r .names) (r .rest)) in (
           r .names,
@@ -205,10 +207,10 @@ header-spelled text order m e f = go (first .rest) refl
               (line-read text order (r .names) (r .rest) (first .digit) (r .low) (r .new) whole (r .line-end)),
         )
 
-pub header-read : (text : List ℕ) (order : ℕ) (names : List ℕ) → (1 ≤ order) × (order ≤ 7) → every (λ k. leb k 63) names ≡ true → once names ≡ true
+pub header-read : (text : List ℕ) (order : ℕ) (names : List ℕ) → (1 ≤ order) × (order ≤ maxOrder) → every (λ k. leb k maxMask) names ≡ true → once names ≡ true
     → Bytes text 0 (headerText order names) → ended (drop (length (headerText order names)) text) ≡ true
     → (orderLine text ≡ OrderLine.Order order)
-    × ((m : Masks) × ((masksLine 10 (drop 10 text) ≡ MasksLine.Declared m) × HeaderRead text order m names))
+    × ((m : Masks) × ((masksLine secondAt (drop secondAt text) ≡ MasksLine.Declared m) × HeaderRead text order m names))
 header-read text order names digit low alone header header-end =
     let rest : List ℕ = drop (length (headerText order names)) text in
     let whole : text ≡ headerText order names ++ rest = sym (take-append-drop (length (headerText order names)) text) ∙ ap (λ w. w ++ rest) header in
@@ -218,7 +220,7 @@ header-read text order names digit low alone header header-end =
       (
         lineMasks names,
         (
-          ap (λ t. masksLine 10 (drop 10 t)) parts ∙ masks-read names rest low new header-end,
+          ap (λ t. masksLine secondAt (drop secondAt t)) parts ∙ masks-read names rest low new header-end,
           line-read text order names rest digit low new whole header-end,
         ),
       ),

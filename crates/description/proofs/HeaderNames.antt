@@ -18,7 +18,7 @@ use Rattle.basics.specs.Folds.{every}
 use Rattle.basics.proofs.Tests.{and-left, and-right, and-both}
 use Rattle.records.specs.Words.{bit}
 use Rattle.description.specs.Bytes.{space, comma, bracket, ended}
-use Rattle.description.specs.Symbols.{nameLength, maskName, maskAt}
+use Rattle.description.specs.Symbols.{maxMask, nameLength, maskName, maskAt}
 use Rattle.description.specs.Header.{masksOf, closed, larger, parted, NameStep, next, ends, afterName, namedStep, nameStep, namesFrom}
 use Rattle.description.specs.Grammar.{further-names}
 use Rattle.description.specs.declared.MaskName.{MaskName}
@@ -54,7 +54,7 @@ module _ (word count at : ℕ) where
   names-ends (c ∷ l) line e = ap (λ (x : NameStep). elim x [ next w n pass ↦ namesFrom w n (at + 1) pass l | ends line ↦ line ]) e
 
   -- a name that is new, and what follows it
-  name-step : (k : ℕ) (l : List ℕ) → k ≤ 63 → bit word k ≡ false → digitHere l ≡ false
+  name-step : (k : ℕ) (l : List ℕ) → k ≤ maxMask → bit word k ≡ false → digitHere l ≡ false
       → nameStep word count at (maskName k ++ l) ≡ afterName (bitXor word (2 ^ k)) (larger count (k + 1)) at (nameLength k) l
   name-step k l low new e =
       ap (namedStep word count at (maskName k ++ l)) (name-read k l low e)
@@ -92,10 +92,10 @@ closing-step : (word count at size : ℕ) (rest : List ℕ) → ended rest ≡ t
 closing-step word count at size [] e = refl
 closing-step word count at size (c ∷ rest) e = rw e refl
 
-pub names-read : (ks : List ℕ) (k word count at : ℕ) (rest : List ℕ) → every (λ k. leb k 63) (k ∷ ks) ≡ true → freshIn word (k ∷ ks) ≡ true
+pub names-read : (ks : List ℕ) (k word count at : ℕ) (rest : List ℕ) → every (λ k. leb k maxMask) (k ∷ ks) ≡ true → freshIn word (k ∷ ks) ≡ true
     → ended rest ≡ true → namesFrom word count at 0 (namesText k ks rest) ≡ MasksLine.Declared (masksWith word count at k ks)
 names-read [] k word count at rest low new e =
-    let first = leb-true k 63 (and-left (leb k 63) true low) in
+    let first = leb-true k maxMask (and-left (leb k maxMask) true low) in
     let unset = not-true (bit word k) (and-left (not (bit word k)) true new) in
     names-ends word count at (namesText k [] rest) (MasksLine.Declared (masksOf (bitXor word (2 ^ k)) (larger count (k + 1)) (at + nameLength k + 1)))
     (name-step word count at k (bracket ∷ rest) first unset refl
@@ -103,7 +103,7 @@ names-read [] k word count at rest low new e =
     ∙ ap (λ (x : ℕ). MasksLine.Declared (masksOf (bitXor word (2 ^ k)) (larger count (k + 1)) (at + x + 1))) (sym (one-length k))
 names-read (n ∷ ks) k word count at rest low new e =
     let w : ℕ = bitXor word (2 ^ k) in
-    let first = leb-true k 63 (and-left (leb k 63) (every (λ k. leb k 63) (n ∷ ks)) low) in
+    let first = leb-true k maxMask (and-left (leb k maxMask) (every (λ k. leb k maxMask) (n ∷ ks)) low) in
     let unset = not-true (bit word k) (and-left (not (bit word k)) (freshIn w (n ∷ ks)) new) in
     let tail : List ℕ = further-names (n ∷ ks) ++ (bracket ∷ rest) in
     let here : drop (nameLength k) (maskName k ++ tail) ≡ tail = drop-at (maskName k) tail (nameLength k) (name-length k) in
@@ -112,7 +112,7 @@ names-read (n ∷ ks) k word count at rest low new e =
     names-next word count at (maskName k ++ tail) w (larger count (k + 1)) (nameLength k + 1) (name-step word count at k tail first unset refl)
     ∙ ap (λ l. namesFrom w (larger count (k + 1)) (at + suc (nameLength k + 1)) 0 l)
     (past-comma (nameLength k) (maskName k ++ tail) ((maskName n ++ further-names ks) ++ (bracket ∷ rest)) here ∙ parted-names)
-    ∙ names-read ks n w (larger count (k + 1)) (at + suc (nameLength k + 1)) rest (and-right (leb k 63) (every (λ k. leb k 63) (n ∷ ks)) low)
+    ∙ names-read ks n w (larger count (k + 1)) (at + suc (nameLength k + 1)) rest (and-right (leb k maxMask) (every (λ k. leb k maxMask) (n ∷ ks)) low)
     (and-right (not (bit word k)) (freshIn w (n ∷ ks)) new) e
     ∙ ap (λ (x : ℕ). MasksLine.Declared (masksOf (wordWith word (k ∷ n ∷ ks)) (countWith count (k ∷ n ∷ ks)) x)) place
 
@@ -122,15 +122,15 @@ pub record NamesSpelled (word count at : ℕ) (l : List ℕ) (m : Masks) : Type 
   pub first : ℕ
   pub others : List ℕ
   pub rest : List ℕ
-  pub low : every (λ k. leb k 63) (first ∷ others) ≡ true
+  pub low : every (λ k. leb k maxMask) (first ∷ others) ≡ true
   pub new : freshIn word (first ∷ others) ≡ true
   pub spelled : l ≡ namesText first others rest
   pub line-end : ended rest ≡ true
   pub masks : m ≡ masksWith word count at first others
 
 module _ (word count at : ℕ) (l : List ℕ) (m : Masks) (k : ℕ) (name : NameAt l k) (unset : bit word k ≡ false) where
-  low-name : leb k 63 ≡ true
-  low-name = le-leb k 63 (name .low)
+  low-name : leb k maxMask ≡ true
+  low-name = le-leb k maxMask (name .low)
 
   new-name : not (bit word k) ≡ true
   new-name = ap not unset
@@ -153,7 +153,7 @@ module _ (word count at : ℕ) (l : List ℕ) (m : Masks) (k : ℕ) (name : Name
             first = k;
             others = [];
             rest = rest;
-            low = and-both (leb k 63) true low-name refl;
+            low = and-both (leb k maxMask) true low-name refl;
             new = and-both (not (bit word k)) true new-name refl;
             spelled = name .here ∙ ap (λ t. maskName k ++ t) (e ∙ ap {B = List ℕ} (λ x. x ∷ rest) closes);
             line-end = and-right (eqb c bracket) (ended rest) q;
@@ -171,7 +171,7 @@ module _ (word count at : ℕ) (l : List ℕ) (m : Masks) (k : ℕ) (name : Name
         first = k;
         others = r .first ∷ r .others;
         rest = r .rest;
-        low = and-both (leb k 63) (every (λ k. leb k 63) (r .first ∷ r .others)) low-name (r .low);
+        low = and-both (leb k maxMask) (every (λ k. leb k maxMask) (r .first ∷ r .others)) low-name (r .low);
         new = and-both (not (bit word k)) (freshIn w (r .first ∷ r .others)) new-name (r .new);
         spelled =
             name .here

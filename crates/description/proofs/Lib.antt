@@ -15,7 +15,6 @@
 --     Steps         what is done at a byte
 --     Passing       the run at a byte
 --     After         the state after the items of a group
---     Totals        sums added in parts
 --     Seeing        the symbols seen, as a sum and as a list
 --     Tracing       the run lists the wires of events
 --     Following     the run follows items that are spelled
@@ -42,7 +41,6 @@ pub mod Tables
 pub mod Steps
 pub mod Passing
 pub mod After
-pub mod Totals
 pub mod Seeing
 pub mod Tracing
 pub mod Following

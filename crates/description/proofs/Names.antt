@@ -3,23 +3,22 @@
 --     name-length                   how many bytes a name has
 --     digitHere, name-read          a name is read, where no digit follows
 --     NameAt, read-name             what is read as a name is the name that stands there
---     same-name                     two names are the same where the numbers are
-use Prim.Native.Nat.{ℕ, suc, _+_, _*_, _-_, _/_, _%_, _≤_, _<_, suc-le-suc}
+use Prim.Native.Nat.{ℕ, suc, _+_, _*_, _-_, _/_, _%_, _≤_, _<_}
 use native.Mathlib.Nat.{zero-lt-suc, mod-lt, div-add-mod'}
 use native.Mathlib.Omega.{arith}
 use mathlib.Core.Path.{_≡_, refl, sym, _∙_, ap, ap₂, subst}
-use mathlib.Core.Bool.{Bool, true, false, cond, not, _&&_, _||_, xor}
+use mathlib.Core.Bool.{Bool, true, false, cond, not, _&&_, _||_}
 use mathlib.Core.List.{List, [], _∷_, _++_}
 use mathlib.Core.Logic.{_≢_}
 use borrow.Author.Tests.{ltb-true, ltb-false, leb-true, eqb-true, eqb-false, lt-ltb, le-ltb, le-leb, ne-eqb, not-true}
 use lib.Arith.{digits-div, digits-mod}
 use lib.Dec.{eqb, ltb, leb}
 use lib.ListN.{length, drop}
-use Rattle.basics.specs.Folds.{every, upTo}
+use Rattle.basics.specs.Folds.{upTo}
 use Rattle.basics.proofs.Folds.{every-at}
-use Rattle.basics.proofs.Tests.{and-left, and-right, and-both, or-none, xor-same}
-use Rattle.description.specs.Bytes.{letterR, digit, figure, parts, same}
-use Rattle.description.specs.Symbols.{nameLength, maskName, maskNumber, maskAt}
+use Rattle.basics.proofs.Tests.{and-left, and-right, and-both, or-none}
+use Rattle.description.specs.Bytes.{letterR, digit, figure, parts}
+use Rattle.description.specs.Symbols.{maxMask, nameLength, maskName, maskNumber, maskAt}
 use Rattle.description.specs.declared.MaskName.the-variants.{Number, NoName}
 
 figure-digit : (i : ℕ) → i < 10 → digit (figure i) ≡ true
@@ -53,7 +52,7 @@ abbrev pub digitHere : List ℕ → Bool
 digitHere [] = false
 digitHere (c ∷ l) = digit c
 
-pub name-read : (k : ℕ) (rest : List ℕ) → k ≤ 63 → digitHere rest ≡ false → maskAt (maskName k ++ rest) ≡ Number k
+pub name-read : (k : ℕ) (rest : List ℕ) → k ≤ maxMask → digitHere rest ≡ false → maskAt (maskName k ++ rest) ≡ Number k
 name-read k rest h e = go (ltb k 10) refl
   where
     one : (rest : List ℕ) → digitHere rest ≡ false → maskNumber (figure k) rest ≡ Number k
@@ -71,13 +70,13 @@ name-read k rest h e = go (ltb k 10) refl
         let tens : k / 10 < 10 = omega (arith, parts, h) in
         let number : 10 * (figure (k / 10) - 48) + (figure (k % 10) - 48) ≡ k = omega (arith, parts) in
         let first : eqb (figure (k / 10)) 48 ≡ false = ne-eqb (figure (k / 10)) 48 (λ z. omega (arith, parts, ones, high, z)) in
-        let small : ltb 63 k ≡ false = le-ltb 63 k h in
+        let small : ltb maxMask k ≡ false = le-ltb maxMask k h in
         ap (λ w. maskAt (w ++ rest)) (long-name k high)
         ∙ rw (figure-digit (k / 10) tens, figure-digit (k % 10) ones, number, first, small) refl
 
 -- a mask's name at the start
 pub record NameAt (l : List ℕ) (k : ℕ) : Type 0 where
-  pub low : k ≤ 63
+  pub low : k ≤ maxMask
   pub here : l ≡ maskName k ++ drop (nameLength k) l
 
 module _ (c i : ℕ) (letter : c ≡ letterR) (first : digit i ≡ true) where
@@ -90,12 +89,12 @@ module _ (c i : ℕ) (letter : c ≡ letterR) (first : digit i ≡ true) where
         here = rw test (ap₂ {C = List ℕ} (λ x y. x ∷ y ∷ l) letter (figure-back i (range .0)));
       }
 
-  long-at : (j : ℕ) (l : List ℕ) → digit j ≡ true → (eqb i 48 || ltb 63 (10 * (i - 48) + (j - 48))) ≡ false
+  long-at : (j : ℕ) (l : List ℕ) → digit j ≡ true → (eqb i 48 || ltb maxMask (10 * (i - 48) + (j - 48))) ≡ false
       → NameAt (c ∷ i ∷ j ∷ l) (10 * (i - 48) + (j - 48))
   long-at j l second small =
       let from = digit-range i first .0 in
       let range = digit-range j second in
-      let none = or-none (eqb i 48) (ltb 63 (10 * (i - 48) + (j - 48))) small in
+      let none = or-none (eqb i 48) (ltb maxMask (10 * (i - 48) + (j - 48))) small in
       let k : ℕ = 10 * (i - 48) + (j - 48) in
       let other : i ≢ 48 = eqb-false i 48 (none .0) in
       let test : ltb k 10 ≡ false = le-ltb k 10 (omega (arith, from, other)) in
@@ -106,7 +105,7 @@ module _ (c i : ℕ) (letter : c ≡ letterR) (first : digit i ≡ true) where
       let first-byte : i ≡ figure (k / 10) = figure-back i from ∙ ap (λ (x : ℕ). figure x) tens in
       let second-byte : j ≡ figure (k % 10) = figure-back j (range .0) ∙ ap (λ (x : ℕ). figure x) ones in
       record {
-        low = ltb-false 63 k (none .1);
+        low = ltb-false maxMask k (none .1);
         here = rw test (cc);
       }
 
@@ -119,7 +118,7 @@ read-name (c ∷ i ∷ l) k e = go (eqb c letterR && digit i) refl e
     more p q [] e = let number : i - 48 ≡ k = cc in rw number at (short-at c i p q [])
     more p q (j ∷ l) e = two (digit j) refl e
       where
-        small : digit j ≡ true → (b : Bool) → (eqb i 48 || ltb 63 (10 * (i - 48) + (j - 48))) ≡ b
+        small : digit j ≡ true → (b : Bool) → (eqb i 48 || ltb maxMask (10 * (i - 48) + (j - 48))) ≡ b
             → cond b NoName (Number (10 * (i - 48) + (j - 48))) ≡ Number k → NameAt (c ∷ i ∷ j ∷ l) k
         small d true s e = let z : _≡_ {A = ℕ} 0 1 = cc in absurd (omega (arith, z))
         small d false s e =
@@ -127,20 +126,11 @@ read-name (c ∷ i ∷ l) k e = go (eqb c letterR && digit i) refl e
             subst (NameAt (c ∷ i ∷ j ∷ l)) number (long-at c i p q j l d s)
 
         two : (b : Bool) → digit j ≡ b
-            → cond b (cond (eqb i 48 || ltb 63 (10 * (i - 48) + (j - 48))) NoName (Number (10 * (i - 48) + (j - 48)))) (Number (i - 48)) ≡ Number k
+            → cond b (cond (eqb i 48 || ltb maxMask (10 * (i - 48) + (j - 48))) NoName (Number (10 * (i - 48) + (j - 48)))) (Number (i - 48)) ≡ Number k
             → NameAt (c ∷ i ∷ j ∷ l) k
-        two true d e = small d (eqb i 48 || ltb 63 (10 * (i - 48) + (j - 48))) refl e
+        two true d e = small d (eqb i 48 || ltb maxMask (10 * (i - 48) + (j - 48))) refl e
         two false d e = let number : i - 48 ≡ k = cc in subst (NameAt (c ∷ i ∷ j ∷ l)) number (short-at c i p q (j ∷ l))
 
     go : (b : Bool) → (eqb c letterR && digit i) ≡ b → cond b (maskNumber i l) NoName ≡ Number k → NameAt (c ∷ i ∷ l) k
     go false q e = let z : _≡_ {A = ℕ} 0 1 = cc in absurd (omega (arith, z))
     go true q e = more (eqb-true c letterR (and-left (eqb c letterR) (digit i) q)) (and-right (eqb c letterR) (digit i) q) l e
-
--- the 64 names are different, by running the test
-pub same-name : (k m : ℕ) → k ≤ 63 → m ≤ 63 → same (maskName k) (maskName m) ≡ eqb k m
-unfolding upTo xor
-same-name k m h l =
-    let test : ℕ → ℕ → Bool = λ k m. not (xor (same (maskName k) (maskName m)) (eqb k m)) in
-    xor-same (same (maskName k) (maskName m)) (eqb k m)
-    (not-true (xor (same (maskName k) (maskName m)) (eqb k m))
-    (every-at 64 m (test k) (every-at 64 k (λ k. every (test k) (upTo 64)) refl (suc-le-suc h)) (suc-le-suc l)))

@@ -1,12 +1,11 @@
 -- The numbers of masks: lists of them, and the word that has their bits.
---     bit-power                     a power of two has one bit
 --     member-every                  what passes for every number of a list passes for a member
 --     larger-max                    the larger of two numbers, in the words of arithmetic
 --     wordWith, countWith, freshIn  a word, a count, to which the numbers of a list are added one after another; whether each is new to the word
 --     word-bits                     the bits of such a word
 --     fresh-once                    to the empty word all numbers are new where none is twice in the list
 --     count-with                    the count then is the list's mask count
-use Prim.Native.Nat.{ℕ, zero, suc, _+_, _/_, _%_, _^_, max}
+use Prim.Native.Nat.{ℕ, _+_, _^_, max}
 use native.Mathlib.Omega.{arith}
 use mathlib.Core.Path.{_≡_, refl, sym, _∙_, ap, ap₂}
 use mathlib.Core.Logic.{_⊎_, inl, inr}
@@ -14,25 +13,14 @@ use mathlib.Core.Bool.{Bool, true, false, cond, not, _&&_, _||_, xor, false≢tr
 use mathlib.Core.List.{List, [], _∷_}
 use borrow.Author.Tests.{ltb-true, ltb-false, eqb-true, eq-eqb, not-true}
 use lib.Bits.{bitXor}
-use lib.Dec.{eqb, ltb, eqb·zero-suc, eqb·suc-zero, eqb·suc-suc}
+use lib.Dec.{eqb, ltb}
 use Rattle.basics.specs.Folds.{every}
 use Rattle.basics.proofs.Folds.{fold-cong, fold-unit}
 use Rattle.basics.proofs.Tests.{and-left, and-right, or-cases, bool-ext, xor-false}
 use Rattle.records.specs.Words.{bit}
-use Rattle.records.proofs.Words.{bit-first, bit-next, bit-zero, bit-xor}
+use Rattle.records.proofs.Words.{bit-zero, bit-xor, bit-power}
 use Rattle.description.specs.Header.{larger}
 use Rattle.description.specs.Grammar.{member, once, maskCount}
-
-pub bit-power : (k i : ℕ) → bit (2 ^ k) i ≡ eqb i k
-unfolding bit
-bit-power zero zero = refl
-bit-power zero (suc i) = bit-next 1 i ∙ bit-zero i ∙ sym (eqb·suc-zero i)
-bit-power (suc k) zero =
-    let even : 2 ^ suc k % 2 ≡ 0 = omega arith in
-    bit-first (2 ^ suc k) ∙ ap (λ (x : ℕ). eqb x 1) even ∙ sym (eqb·zero-suc k)
-bit-power (suc k) (suc i) =
-    let half : 2 ^ suc k / 2 ≡ 2 ^ k = omega arith in
-    bit-next (2 ^ suc k) i ∙ ap (λ (x : ℕ). bit x i) half ∙ bit-power k i ∙ sym (eqb·suc-suc i k)
 
 -- a word with one bit more
 bit-more : (w k i : ℕ) → bit w k ≡ false → bit (bitXor w (2 ^ k)) i ≡ (bit w i || eqb i k)

@@ -8,15 +8,17 @@ use mathlib.Core.List.{List, [], _∷_, _++_, append-nil, reverseAux, reverse, r
 use borrow.Author.Tests.{le-ltb, leb-true}
 use lib.Dec.{leb}
 use lib.ListN.{length}
+use Rattle.limits.specs.Limits.{maxShares}
 use Rattle.basics.specs.Folds.{some, every}
 use Rattle.basics.proofs.Tests.{and-left, and-right, and-both}
+use Rattle.description.specs.Symbols.{maxMask}
 use Rattle.description.specs.Bytes.{lineEnd}
 use Rattle.description.specs.Listing.{emptyGroup, outerWire}
 use Rattle.description.specs.Run.{State, done, refused, go, finish, lineStep, lineDone, newestOuter, runAt, maxDepth, start}
 use Rattle.description.specs.Grammar.{Items, none, symbol, group, Byte, empty, counted, symbols, depth, known}
 use Rattle.description.specs.Grammar.{Spelled, end, spaced, a-symbol, a-group, Lines, last, line}
 use Rattle.description.specs.Grammar.{uses, worked, eventWires, outered, lineWires, linesWires}
-use Rattle.description.specs.declared.Symbol.{Symbol}
+use Rattle.wires.specs.declared.Symbol.{Symbol}
 use Rattle.description.specs.declared.PlacedSymbol.{PlacedSymbol}
 use Rattle.description.specs.declared.Listed.{Listed}
 use Rattle.description.specs.declared.Group.{Group}
@@ -43,7 +45,7 @@ spelled-whole (a-group {inside = inside} {is = is} b r f e k) =
 abbrev ended : ℕ → Bool → PlacedSymbol → List Listed → List Listed
 ended n added p ws = cond added (newestOuter n ws) (outerWire n p ∷ ws)
 
-module _ (shares : ℕ) (names : List ℕ) (few : shares ≤ 8) (low : every (λ k. leb k 63) names ≡ true) where
+module _ (shares : ℕ) (names : List ℕ) (few : shares ≤ maxShares) (low : every (λ k. leb k maxMask) names ≡ true) where
   -- after an output line its wires are listed, the outer one among them
   line-wires : (is : Items) (s : State) (seen : List Symbol) → whole is ≡ true → empty is ≡ false → s .group ≡ emptyGroup → s .added ≡ false
       → every (known shares names) (symbols is) ≡ true → SeenBy shares names (s .seen) seen
@@ -82,7 +84,7 @@ module _ (shares : ℕ) (names : List ℕ) (few : shares ≤ 8) (low : every (λ
 
 -- ---- the lines
 
-module _ (text : List ℕ) (shares declared : ℕ) (names : List ℕ) (few : shares ≤ 8) (d : Declares declared names) where
+module _ (text : List ℕ) (shares declared : ℕ) (names : List ℕ) (few : shares ≤ maxShares) (d : Declares declared names) where
   -- the state before output lines
   record Before (s : State) (seen : List Symbol) (lines : List Items) : Type 0 where
     clear : s .group ≡ emptyGroup

@@ -17,7 +17,7 @@ use Rattle.description.specs.Bytes.{space, lineEnd, opening, closing, ba
 use Rattle.description.specs.Symbols.{symbolRead}
 use Rattle.description.specs.Run.{State, Around, refused, runAt, maxDepth, placed, took, opened, closed}
 use Rattle.description.specs.Run.{go, stop, step, lineStep, lineDone, closeStep, symbolStep}
-use Rattle.description.specs.declared.Symbol.{Symbol}
+use Rattle.wires.specs.declared.Symbol.{Symbol}
 use Rattle.description.specs.declared.SymbolAnswer.{SymbolAnswer}
 use Rattle.description.specs.declared.Refusal.the-variants.{NoSuchSymbol, MaskNotDeclared, WrongParenthesis, Bar, NestedTooDeep, WrongLineCount}
 use Rattle.description.proofs.Running.{drop-byte, run-go, run-stop}

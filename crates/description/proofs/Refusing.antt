@@ -12,10 +12,10 @@ use lib.ListN.{length, drop}
 use lib.Seq.{drop-length}
 use Rattle.records.specs.Words.{bit}
 use Rattle.description.specs.Bytes.{letterS, letterA, letterB}
-use Rattle.description.specs.Symbols.{nameLength, maskName, maskAt, shareDigit, productRead, shareRead, namedRead, symbolRead}
+use Rattle.description.specs.Symbols.{maxMask, shareOf, nameLength, maskName, maskAt, shareDigit, productRead, shareRead, namedRead, symbolRead}
 use Rattle.description.specs.Grammar.{member}
-use Rattle.description.specs.declared.Symbol.{Symbol}
-use Rattle.description.specs.declared.Symbol.the-variants.{Product, ShareA, ShareB, Mask}
+use Rattle.wires.specs.declared.Symbol.{Symbol}
+use Rattle.wires.specs.declared.Symbol.the-variants.{Product, ShareA, ShareB, Mask}
 use Rattle.description.specs.declared.MaskName.{MaskName}
 use Rattle.description.specs.declared.MaskName.the-variants.{Number, NoName}
 use Rattle.description.specs.declared.SymbolAnswer.{SymbolAnswer}
@@ -25,7 +25,7 @@ use Rattle.description.proofs.Spelling.{Declares}
 
 -- the name of a mask that is not declared
 abbrev Undeclared : List ℕ → List ℕ → Type 0
-Undeclared names w = (k : ℕ) × ((k ≤ 63) × (member k names ≡ false) × (w ≡ maskName k))
+Undeclared names w = (k : ℕ) × ((k ≤ maxMask) × (member k names ≡ false) × (w ≡ maskName k))
 
 -- a symbol that is known or not is no mask that is not declared
 judged : (b : Bool) (s : Symbol) → cond b (Known s) NoSuch ≡ NotDeclared → ⊥
@@ -36,12 +36,12 @@ judged false s e = let z : _≡_ {A = ℕ} 0 1 = cc in omega (arith, z)
 no-product : (n : ℕ) (w : List ℕ) → productRead n w ≡ NotDeclared → ⊥
 no-product n [] e = let z : _≡_ {A = ℕ} 0 1 = cc in omega (arith, z)
 no-product n (i ∷ []) e = let z : _≡_ {A = ℕ} 0 1 = cc in omega (arith, z)
-no-product n (i ∷ j ∷ []) e = judged (shareDigit n i && shareDigit n j) (Product (i - 48) (j - 48)) e
+no-product n (i ∷ j ∷ []) e = judged (shareDigit n i && shareDigit n j) (Product (shareOf i) (shareOf j)) e
 no-product n (i ∷ j ∷ k ∷ w) e = let z : _≡_ {A = ℕ} 0 1 = cc in omega (arith, z)
 
 no-share : (share : ℕ → Symbol) (n : ℕ) (w : List ℕ) → shareRead share n w ≡ NotDeclared → ⊥
 no-share share n [] e = let z : _≡_ {A = ℕ} 0 1 = cc in omega (arith, z)
-no-share share n (i ∷ []) e = judged (shareDigit n i) (share (i - 48)) e
+no-share share n (i ∷ []) e = judged (shareDigit n i) (share (shareOf i)) e
 no-share share n (i ∷ j ∷ w) e = let z : _≡_ {A = ℕ} 0 1 = cc in omega (arith, z)
 
 module _ (n declared : ℕ) (names : List ℕ) (d : Declares declared names) where
@@ -94,5 +94,5 @@ module _ (n declared : ℕ) (names : List ℕ) (d : Declares declared names) whe
 
 -- with `known-read` and `read-known`: which of its three answers every run of bytes gets
 pub undeclared-exactly : (n declared : ℕ) (names w : List ℕ) → Declares declared names
-    → (symbolRead n declared w ≡ NotDeclared) ↔ ((k : ℕ) × ((k ≤ 63) × (member k names ≡ false) × (w ≡ maskName k)))
+    → (symbolRead n declared w ≡ NotDeclared) ↔ ((k : ℕ) × ((k ≤ maxMask) × (member k names ≡ false) × (w ≡ maskName k)))
 undeclared-exactly n declared names w d = (read-undeclared n declared names d w, undeclared-read n declared names d w)

@@ -22,11 +22,13 @@ use mathlib.Core.Bool.{true, false}
 use mathlib.Core.List.{List, [], _∷_, _++_, map}
 use lib.ListN.{length, take, drop, replicate}
 use Rattle.basics.specs.Quoted.{bytes}
+use Rattle.wires.specs.declared.Symbol.{Symbol}
+use Rattle.wires.specs.declared.Symbol.the-variants.{Product, ShareA, ShareB, Mask}
 use Rattle.records.specs.Words.{bit}
 use Rattle.description.specs.Bytes.{space}
-use Rattle.description.specs.Symbols.{sumWith}
 use Rattle.description.specs.Header.{orderLine, masksLine, namesFrom}
 use Rattle.description.specs.Listing.{encode}
+use Rattle.description.specs.Grammar.{sumOf}
 use Rattle.description.specs.Run.{Reading, read, turnedDown, refusalNumber, reading, run}
 use Rattle.description.specs.declared.Listed.{Listed}
 use Rattle.description.specs.declared.Refusal.the-variants.{TextTooLong, WrongOrderLine, WrongMasksLine, NoSuchSymbol, MaskNotDeclared}
@@ -34,14 +36,13 @@ use Rattle.description.specs.declared.Refusal.the-variants.{WrongParenth
 
 -- ---- texts that are read
 
--- products, masks, shares of a and of b that the sum names; offset and length of the part
-abbrev inner : ℕ → ℕ → ℕ → ℕ → ℕ → ℕ → Listed
-inner products masks a b offset size = record { sum = sumWith products masks a b; outer = false; line = 0; offset = offset; length = size }
+-- the symbols that the sum adds up; offset and length of the part
+abbrev inner : List Symbol → ℕ → ℕ → Listed
+inner symbols offset size = record { sum = sumOf symbols; outer = false; line = 0; offset = offset; length = size }
 
 -- the output line first
-abbrev outer : ℕ → ℕ → ℕ → ℕ → ℕ → ℕ → ℕ → Listed
-outer line products masks a b offset size =
-    record { sum = sumWith products masks a b; outer = true; line = line; offset = offset; length = size }
+abbrev outer : ℕ → List Symbol → ℕ → ℕ → Listed
+outer line symbols offset size = record { sum = sumOf symbols; outer = true; line = line; offset = offset; length = size }
 
 abbrev wiresRead : Reading → List Listed
 wiresRead (read order masks ws) = ws
@@ -61,8 +62,8 @@ abbrev pub textC : List ℕ
 textC = bytes "ORDER = 1\nMASKS = []\na0 b0\na1 b1\n"
 
 pub text-A : reading textA
-    ≡ read 1 1 (inner 1 0 0 0 23 3 ∷ inner 0 1 0 0 27 2 ∷ outer 0 1 1 0 0 23 6 ∷ inner 512 0 0 0 30 3 ∷ inner 2 0 0 0 39 3
-    ∷ inner 2 1 0 0 36 6 ∷ inner 256 0 0 0 44 3 ∷ inner 258 1 0 0 35 12 ∷ outer 1 770 1 0 0 30 18 ∷ [])
+    ≡ read 1 1 (inner (Product 0 0 ∷ []) 23 3 ∷ inner (Mask 0 ∷ []) 27 2 ∷ outer 0 (Product 0 0 ∷ Mask 0 ∷ []) 23 6 ∷ inner (Product 1 1 ∷ []) 30 3 ∷ inner (Product 0 1 ∷ []) 39 3
+    ∷ inner (Product 0 1 ∷ Mask 0 ∷ []) 36 6 ∷ inner (Product 1 0 ∷ []) 44 3 ∷ inner (Product 0 1 ∷ Product 1 0 ∷ Mask 0 ∷ []) 35 12 ∷ outer 1 (Product 0 1 ∷ Product 1 0 ∷ Product 1 1 ∷ Mask 0 ∷ []) 30 18 ∷ [])
 unfolding orderLine masksLine namesFrom run bit
 text-A = refl
 
@@ -71,14 +72,14 @@ pub parts-A : Parts textA
 unfolding orderLine masksLine namesFrom run bit
 parts-A = refl
 
-pub last-record : encode (outer 1 770 1 0 0 30 18)
+pub last-record : encode (outer 1 (Product 0 1 ∷ Product 1 0 ∷ Product 1 1 ∷ Mask 0 ∷ []) 30 18)
     ≡ 2 ∷ 3 ∷ 0 ∷ 0 ∷ 0 ∷ 0 ∷ 0 ∷ 0 ∷ 1 ∷ 0 ∷ 0 ∷ 0 ∷ 0 ∷ 0 ∷ 0 ∷ 0 ∷ 0 ∷ 0 ∷ 1 ∷ 1 ∷ 30 ∷ 0 ∷ 18 ∷ 0 ∷ []
 unfolding encode
 last-record = refl
 
 pub text-B : reading textB
-    ≡ read 1 1 (inner 1 0 0 0 23 3 ∷ inner 0 1 0 0 27 2 ∷ outer 0 1 1 0 0 23 6 ∷ inner 512 0 0 0 30 3 ∷ inner 2 0 0 0 35 3
-    ∷ inner 256 0 0 0 39 3 ∷ inner 258 0 0 0 35 7 ∷ inner 770 0 0 0 30 13 ∷ outer 1 770 1 0 0 30 16 ∷ [])
+    ≡ read 1 1 (inner (Product 0 0 ∷ []) 23 3 ∷ inner (Mask 0 ∷ []) 27 2 ∷ outer 0 (Product 0 0 ∷ Mask 0 ∷ []) 23 6 ∷ inner (Product 1 1 ∷ []) 30 3 ∷ inner (Product 0 1 ∷ []) 35 3
+    ∷ inner (Product 1 0 ∷ []) 39 3 ∷ inner (Product 0 1 ∷ Product 1 0 ∷ []) 35 7 ∷ inner (Product 0 1 ∷ Product 1 0 ∷ Product 1 1 ∷ []) 30 13 ∷ outer 1 (Product 0 1 ∷ Product 1 0 ∷ Product 1 1 ∷ Mask 0 ∷ []) 30 16 ∷ [])
 unfolding orderLine masksLine namesFrom run bit
 text-B = refl
 
@@ -88,8 +89,8 @@ unfolding orderLine masksLine namesFrom run bit
 parts-B = refl
 
 pub text-C : reading textC
-    ≡ read 1 0 (inner 0 0 1 0 21 2 ∷ inner 0 0 0 1 24 2 ∷ outer 0 0 0 1 1 21 5 ∷ inner 0 0 2 0 27 2 ∷ inner 0 0 0 2 30 2
-    ∷ outer 1 0 0 2 2 27 5 ∷ [])
+    ≡ read 1 0 (inner (ShareA 0 ∷ []) 21 2 ∷ inner (ShareB 0 ∷ []) 24 2 ∷ outer 0 (ShareA 0 ∷ ShareB 0 ∷ []) 21 5 ∷ inner (ShareA 1 ∷ []) 27 2 ∷ inner (ShareB 1 ∷ []) 30 2
+    ∷ outer 1 (ShareA 1 ∷ ShareB 1 ∷ []) 27 5 ∷ [])
 unfolding orderLine masksLine namesFrom run bit
 text-C = refl
 
@@ -101,14 +102,14 @@ abbrev Wires : String → List Listed → Type 0
 Wires s ws = reading (lines s) ≡ read 1 1 ws
 
 -- a line that is a single symbol, parentheses apart: an outer wire of its own, with the symbol on that line as its part
-pub single-symbols : Wires "((a0))\na1\n" (inner 0 0 1 0 25 2 ∷ outer 0 0 0 1 0 25 2 ∷ inner 0 0 2 0 30 2 ∷ outer 1 0 0 2 0 30 2 ∷ [])
-    × Wires "r0\nr0\n" (inner 0 1 0 0 23 2 ∷ outer 0 0 1 0 0 23 2 ∷ outer 1 0 1 0 0 26 2 ∷ [])
+pub single-symbols : Wires "((a0))\na1\n" (inner (ShareA 0 ∷ []) 25 2 ∷ outer 0 (ShareA 0 ∷ []) 25 2 ∷ inner (ShareA 1 ∷ []) 30 2 ∷ outer 1 (ShareA 1 ∷ []) 30 2 ∷ [])
+    × Wires "r0\nr0\n" (inner (Mask 0 ∷ []) 23 2 ∷ outer 0 (Mask 0 ∷ []) 23 2 ∷ outer 1 (Mask 0 ∷ []) 26 2 ∷ [])
 unfolding orderLine masksLine namesFrom run bit
 single-symbols = (refl, refl)
 
 -- later uses list no wire; a symbol added to itself leaves a wire with nothing in it
-pub symbols-again : Wires "a0 b0\nb0 a0\n" (inner 0 0 1 0 23 2 ∷ inner 0 0 0 1 26 2 ∷ outer 0 0 0 1 1 23 5 ∷ outer 1 0 0 1 1 29 5 ∷ [])
-    × Wires "a0 a0\na1\n" (inner 0 0 1 0 23 2 ∷ outer 0 0 0 0 0 23 5 ∷ inner 0 0 2 0 29 2 ∷ outer 1 0 0 2 0 29 2 ∷ [])
+pub symbols-again : Wires "a0 b0\nb0 a0\n" (inner (ShareA 0 ∷ []) 23 2 ∷ inner (ShareB 0 ∷ []) 26 2 ∷ outer 0 (ShareA 0 ∷ ShareB 0 ∷ []) 23 5 ∷ outer 1 (ShareA 0 ∷ ShareB 0 ∷ []) 29 5 ∷ [])
+    × Wires "a0 a0\na1\n" (inner (ShareA 0 ∷ []) 23 2 ∷ outer 0 [] 23 5 ∷ inner (ShareA 1 ∷ []) 29 2 ∷ outer 1 (ShareA 1 ∷ []) 29 2 ∷ [])
 unfolding orderLine masksLine namesFrom run bit
 symbols-again = (refl, refl)
 

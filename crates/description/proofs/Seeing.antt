@@ -8,19 +8,20 @@ use mathlib.Core.Path.{_≡_, refl, sym, _∙_, ap}
 use mathlib.Core.Bool.{Bool, true, false, cond, _||_, xor, true≢false, false≢true, or-assoc, or-comm}
 use mathlib.Core.List.{List, [], _∷_, _++_}
 use lib.Dec.{leb}
+use Rattle.limits.specs.Limits.{maxShares}
 use Rattle.basics.specs.Folds.{some, every}
 use Rattle.basics.proofs.Tests.{and-left, and-right, xor-false, false-xor}
 use Rattle.basics.proofs.Folds.{fold-append}
 use Rattle.records.specs.Layout.{noSum, plusSum}
 use Rattle.records.specs.declared.sums.Sum.{Sum}
-use Rattle.records.proofs.Words.{bit-zero}
+use Rattle.records.specs.Symbols.{symbolSum, isIn}
+use Rattle.records.proofs.Naming.{none-in, symbol-more}
 use Rattle.description.specs.Bytes.{same}
-use Rattle.description.specs.Symbols.{symbolSum, isIn, spelling}
+use Rattle.description.specs.Symbols.{maxMask, spelling}
 use Rattle.description.specs.Run.{State, took, opened, closed}
 use Rattle.description.specs.Grammar.{Items, none, symbol, group, symbols, known, sameSymbol}
-use Rattle.description.specs.declared.Symbol.{Symbol}
-use Rattle.description.specs.declared.Symbol.the-variants.{Product, ShareA, ShareB, Mask}
-use Rattle.description.proofs.Spelling.{seen-more}
+use Rattle.wires.specs.declared.Symbol.{Symbol}
+use Rattle.description.proofs.Spelling.{known-formed, known-small, same-spelled, spelled-same}
 use Rattle.description.proofs.Places.{same-bytes}
 use Rattle.description.proofs.Events.{symbols-group, known-group}
 use Rattle.description.proofs.After.{outside, afterItems}
@@ -40,16 +41,16 @@ module _ (shares : ℕ) (names : List ℕ) where
   SeenBy t l = (u : Symbol) → known shares names u ≡ true → isIn u t ≡ some (sameSymbol u) l
 
   pub none-seen : SeenBy noSum []
-  none-seen (Product i j) k = bit-zero _
-  none-seen (ShareA i) k = bit-zero i
-  none-seen (ShareB j) k = bit-zero j
-  none-seen (Mask m) k = bit-zero m
+  none-seen u k = none-in u
 
-  module _ (few : shares ≤ 8) (low : every (λ k. leb k 63) names ≡ true) where
+  module _ (few : shares ≤ maxShares) (low : every (λ k. leb k maxMask) names ≡ true) where
     module _ (t : Sum) (l : List Symbol) (v : Symbol) (seen : SeenBy t l) (known-v : known shares names v ≡ true) where
       -- not seen before
       fresh : isIn v t ≡ false → SeenBy (plusSum t (symbolSum v)) (v ∷ l)
-      fresh new u k = seen-more shares names u v t few low k known-v ∙ go (sameSymbol u v) refl (isIn u t) refl
+      fresh new u k =
+          symbol-more u v t (sameSymbol u v) (known-small shares names v few low known-v)
+          (same-spelled u v (known-formed shares names u few low k) (known-formed shares names v few low known-v)) (spelled-same u v)
+          ∙ go (sameSymbol u v) refl (isIn u t) refl
         where
           go : (a : Bool) → sameSymbol u v ≡ a → (b : Bool) → isIn u t ≡ b → xor b a ≡ (a || some (sameSymbol u) l)
           go false e b f = xor-false b ∙ sym f ∙ seen u k

@@ -1,35 +1,34 @@
 -- Sums of symbols: what they mean, and that they fit into a record, where the symbols are shares of the order and declared masks.
---     count-low                    the mask count is at most 64
---     symbolTerms, sum-means       a sum of symbols means the terms that the symbols name, added
+--     count-low                    the mask count is within its limit
+--     sum-append                   the sum of symbols in two parts
+--     sum-means                    a sum of symbols means the terms that the symbols name, added
 --     symbol-within, sum-within    the sum of a symbol, of symbols, has no bit beyond the shares and masks
 --     symbol-small, sum-small      and fits into a record
-use Prim.Native.Nat.{ℕ, _+_, _*_, _^_, _≤_, _<_}
+use Prim.Native.Nat.{ℕ, _+_, _≤_, _<_}
 use native.Mathlib.Omega.{arith}
 use mathlib.Core.Path.{_≡_, refl, sym, _∙_, ap, ap₂, subst}
 use mathlib.Core.Logic.{_⊎_, inl, inr}
 use mathlib.Core.Bool.{Bool, true, false, _&&_, false≢true, and-false}
-use mathlib.Core.List.{List, [], _∷_}
-use borrow.Author.Tests.{ltb-true, leb-true, eqb-true, lt-ltb, eq-eqb, ne-eqb}
-use lib.Bits.{xor-lt}
+use mathlib.Core.List.{List, [], _∷_, _++_}
+use borrow.Author.Tests.{ltb-true, leb-true, eqb-true, ne-eqb}
 use lib.Dec.{eqb, ltb, leb}
-use lib.Pow.{pow-lt}
+use Rattle.limits.specs.Limits.{maxShares, maxMasks}
 use Rattle.basics.specs.Folds.{fold, every}
-use Rattle.basics.proofs.Tests.{and-left, and-right, and-both, or-cases, bool-ext}
-use Rattle.wires.specs.Wires.{Terms, none, plus, swap}
-use Rattle.wires.proofs.Units.{justProduct, justShare, justMask}
-use Rattle.wires.proofs.Value.{terms-ext}
+use Rattle.basics.proofs.Tests.{and-left, and-right, or-cases}
+use Rattle.basics.proofs.Folds.{fold-append}
+use Rattle.wires.specs.declared.Symbol.{Symbol}
+use Rattle.wires.specs.declared.Symbol.the-variants.{Product, ShareA, ShareB, Mask}
+use Rattle.wires.specs.Wires.{none, plus}
+use Rattle.wires.proofs.Units.{symbolTerms}
 use Rattle.wires.proofs.Narrow.{Within, within-none, within-plus}
-use Rattle.records.specs.Words.{bit}
-use Rattle.records.specs.Layout.{termsOf}
-use Rattle.records.specs.declared.sums.Sum.{Sum}
-use Rattle.records.proofs.Words.{bit-zero}
-use Rattle.records.proofs.Adding.{words-zero, words-added}
-use Rattle.description.specs.Symbols.{symbolSum}
+use Rattle.records.specs.Layout.{termsOf, noSum, plusSum}
+use Rattle.records.specs.Symbols.{symbolSum}
+use Rattle.records.proofs.Naming.{none-means, plus-means, symbol-means, sum-assoc}
+use Rattle.records.proofs.Encoding.{Fits, none-fits, plus-fits, symbol-fits}
+use Rattle.description.specs.Symbols.{maxMask}
 use Rattle.description.specs.Grammar.{member, known, sumOf, maskCount}
-use Rattle.description.specs.declared.Symbol.{Symbol}
-use Rattle.description.specs.declared.Symbol.the-variants.{Product, ShareA, ShareB, Mask}
-use Rattle.description.proofs.Numbers.{bit-power, member-every, larger-max}
-use Rattle.description.proofs.Encoding.{SmallSum}
+use Rattle.description.proofs.Numbers.{larger-max}
+use Rattle.description.proofs.Spelling.{known-small}
 
 -- ---- the numbers of masks
 
@@ -47,70 +46,39 @@ member-counted k (n ∷ names) m = go (or-cases (eqb k n) (member k names) m) (m
         let l = larger-max (n + 1) (maskCount names) in
         omega (arith, h, l)
 
-pub count-low : (names : List ℕ) → every (λ k. leb k 63) names ≡ true → maskCount names ≤ 64
+pub count-low : (names : List ℕ) → every (λ k. leb k maxMask) names ≡ true → maskCount names ≤ maxMasks
 count-low [] e = omega arith
 count-low (k ∷ names) e =
-    let first = leb-true k 63 (and-left (leb k 63) (every (λ k. leb k 63) names) e) in
-    let others = count-low names (and-right (leb k 63) (every (λ k. leb k 63) names) e) in
+    let first = leb-true k maxMask (and-left (leb k maxMask) (every (λ k. leb k maxMask) names) e) in
+    let others = count-low names (and-right (leb k maxMask) (every (λ k. leb k maxMask) names) e) in
     let l = larger-max (k + 1) (maskCount names) in
     omega (arith, first, others, l)
 
 -- ---- what sums of symbols mean
 
--- the terms that name one product, share or mask alone
-abbrev pub symbolTerms : Symbol → Terms
-symbolTerms (Product i j) = justProduct i j
-symbolTerms (ShareA i) = justShare i
-symbolTerms (ShareB j) = swap (justShare j)
-symbolTerms (Mask k) = justMask k
+pub sum-append : (k l : List Symbol) → sumOf (k ++ l) ≡ plusSum (sumOf k) (sumOf l)
+sum-append = fold-append plusSum noSum (λ s. refl) sum-assoc symbolSum
 
-module _ (n : ℕ) (names : List ℕ) (few : n ≤ 8) where
-  -- the row and the column of a product's bit
-  product-bit : (i j : ℕ) → j < 8 → (k l : ℕ) → (ltb l 8 && bit (2 ^ (8 * i + j)) (8 * k + l)) ≡ (eqb k i && eqb l j)
-  product-bit i j h k l =
-      ap (λ (b : Bool). ltb l 8 && b) (bit-power (8 * i + j) (8 * k + l))
-      ∙ bool-ext (ltb l 8 && eqb (8 * k + l) (8 * i + j)) (eqb k i && eqb l j) there back
-    where
-      there : (ltb l 8 && eqb (8 * k + l) (8 * i + j)) ≡ true → (eqb k i && eqb l j) ≡ true
-      there e =
-          let low = ltb-true l 8 (and-left (ltb l 8) (eqb (8 * k + l) (8 * i + j)) e) in
-          let place = eqb-true (8 * k + l) (8 * i + j) (and-right (ltb l 8) (eqb (8 * k + l) (8 * i + j)) e) in
-          and-both (eqb k i) (eqb l j) (eq-eqb k i (omega (arith, h, low, place))) (eq-eqb l j (omega (arith, h, low, place)))
+module _ (n : ℕ) (names : List ℕ) (few : n ≤ maxShares) (low : every (λ k. leb k maxMask) names ≡ true) where
+  -- the first of symbols that are all known, and the others
+  first-known : (s : Symbol) (l : List Symbol) → every (known n names) (s ∷ l) ≡ true → known n names s ≡ true
+  first-known s l e = and-left (known n names s) (every (known n names) l) e
 
-      back : (eqb k i && eqb l j) ≡ true → (ltb l 8 && eqb (8 * k + l) (8 * i + j)) ≡ true
-      back e =
-          let row = eqb-true k i (and-left (eqb k i) (eqb l j) e) in
-          let column = eqb-true l j (and-right (eqb k i) (eqb l j) e) in
-          and-both (ltb l 8) (eqb (8 * k + l) (8 * i + j)) (lt-ltb l 8 (omega (arith, h, column)))
-          (eq-eqb (8 * k + l) (8 * i + j) (omega (arith, row, column)))
-
-  no-product : (k l : ℕ) → (ltb l 8 && bit 0 (8 * k + l)) ≡ false
-  no-product k l = ap (λ (b : Bool). ltb l 8 && b) (bit-zero (8 * k + l)) ∙ and-false (ltb l 8)
-
-  symbol-means : (s : Symbol) → known n names s ≡ true → termsOf (symbolSum s) ≡ symbolTerms s
-  symbol-means (Product i j) e =
-      let column = ltb-true j n (and-right (ltb i n) (ltb j n) e) in
-      terms-ext (termsOf (symbolSum (Product i j))) (justProduct i j) (product-bit i j (omega (arith, column, few))) bit-zero bit-zero bit-zero
-  symbol-means (ShareA i) e = terms-ext (termsOf (symbolSum (ShareA i))) (justShare i) no-product (bit-power i) bit-zero bit-zero
-  symbol-means (ShareB j) e = terms-ext (termsOf (symbolSum (ShareB j))) (swap (justShare j)) no-product bit-zero (bit-power j) bit-zero
-  symbol-means (Mask k) e = terms-ext (termsOf (symbolSum (Mask k))) (justMask k) no-product bit-zero bit-zero (bit-power k)
+  others-known : (s : Symbol) (l : List Symbol) → every (known n names) (s ∷ l) ≡ true → every (known n names) l ≡ true
+  others-known s l e = and-right (known n names s) (every (known n names) l) e
 
   pub sum-means : (l : List Symbol) → every (known n names) l ≡ true → termsOf (sumOf l) ≡ fold plus none symbolTerms l
-  sum-means [] e = words-zero
+  sum-means [] e = none-means
   sum-means (s ∷ l) e =
-      let first : Sum = symbolSum s in
-      let rest : Sum = sumOf l in
-      words-added (first .products) (rest .products) (first .masks) (rest .masks) (first .«shares_a») (rest .«shares_a») (first .«shares_b»)
-      (rest .«shares_b»)
-      ∙ ap₂ plus (symbol-means s (and-left (known n names s) (every (known n names) l) e))
-      (sum-means l (and-right (known n names s) (every (known n names) l) e))
+      plus-means (symbolSum s) (sumOf l)
+      ∙ ap₂ plus (symbol-means s (known-small n names s few low (first-known s l e))) (sum-means l (others-known s l e))
 
   -- ---- sums fit into a record
 
   apart : (k i : ℕ) → i < n → n ≤ k → eqb k i ≡ false
   apart k i h l = ne-eqb k i (λ e. omega (arith, h, l, e))
 
-  terms-within : (s : Symbol) → known n names s ≡ true → Within 8 64 n (maskCount names) (symbolTerms s)
+  terms-within : (s : Symbol) → known n names s ≡ true → Within maxShares maxMasks n (maskCount names) (symbolTerms s)
   terms-within (Product i j) e = record {
     noProduct = λ k l c d h. out k l h;
     noA = λ k c h. refl;
@@ -134,45 +102,22 @@ module _ (n : ℕ) (names : List ℕ) (few : n ≤ 8) where
         noMask = λ k c h. let low = member-counted i names e in ne-eqb k i (λ p. omega (arith, low, h, p));
       }
 
-  pub symbol-within : (s : Symbol) → known n names s ≡ true → Within 8 64 n (maskCount names) (termsOf (symbolSum s))
-  symbol-within s e = subst (Within 8 64 n (maskCount names)) (sym (symbol-means s e)) (terms-within s e)
+  pub symbol-within : (s : Symbol) → known n names s ≡ true → Within maxShares maxMasks n (maskCount names) (termsOf (symbolSum s))
+  symbol-within s e =
+      subst (Within maxShares maxMasks n (maskCount names)) (sym (symbol-means s (known-small n names s few low e))) (terms-within s e)
 
-  pub sum-within : (l : List Symbol) → every (known n names) l ≡ true → Within 8 64 n (maskCount names) (termsOf (sumOf l))
-  sum-within l e = subst (Within 8 64 n (maskCount names)) (sym (sum-means l e)) (go l e)
+  pub sum-within : (l : List Symbol) → every (known n names) l ≡ true → Within maxShares maxMasks n (maskCount names) (termsOf (sumOf l))
+  sum-within l e = subst (Within maxShares maxMasks n (maskCount names)) (sym (sum-means l e)) (go l e)
     where
-      go : (l : List Symbol) → every (known n names) l ≡ true → Within 8 64 n (maskCount names) (fold plus none symbolTerms l)
-      go [] e = within-none 8 64 n (maskCount names)
+      go : (l : List Symbol) → every (known n names) l ≡ true → Within maxShares maxMasks n (maskCount names) (fold plus none symbolTerms l)
+      go [] e = within-none maxShares maxMasks n (maskCount names)
       go (s ∷ l) e =
-          within-plus 8 64 n (maskCount names) (symbolTerms s) (fold plus none symbolTerms l)
-          (terms-within s (and-left (known n names s) (every (known n names) l) e))
-          (go l (and-right (known n names s) (every (known n names) l) e))
+          within-plus maxShares maxMasks n (maskCount names) (symbolTerms s) (fold plus none symbolTerms l) (terms-within s (first-known s l e))
+          (go l (others-known s l e))
 
-  module _ (low : every (λ k. leb k 63) names ≡ true) where
-    pub symbol-small : (s : Symbol) → known n names s ≡ true → SmallSum (symbolSum s)
-    symbol-small (Product i j) e =
-        let row = ltb-true i n (and-left (ltb i n) (ltb j n) e) in
-        let column = ltb-true j n (and-right (ltb i n) (ltb j n) e) in
-        record { products = pow-lt {j = 64} (omega (arith, row, column, few)); masks = omega arith; ofA = omega arith; ofB = omega arith }
-    symbol-small (ShareA i) e =
-        let share = ltb-true i n e in
-        record { products = omega arith; masks = omega arith; ofA = pow-lt {j = 8} (omega (arith, share, few)); ofB = omega arith }
-    symbol-small (ShareB j) e =
-        let share = ltb-true j n e in
-        record { products = omega arith; masks = omega arith; ofA = omega arith; ofB = pow-lt {j = 8} (omega (arith, share, few)) }
-    symbol-small (Mask k) e =
-        let mask = leb-true k 63 (member-every (λ k. leb k 63) k names low e) in
-        record { products = omega arith; masks = pow-lt {j = 64} (omega (arith, mask)); ofA = omega arith; ofB = omega arith }
+  pub symbol-small : (s : Symbol) → known n names s ≡ true → Fits (symbolSum s)
+  symbol-small s e = symbol-fits s (known-small n names s few low e)
 
-    pub sum-small : (l : List Symbol) → every (known n names) l ≡ true → SmallSum (sumOf l)
-    sum-small [] e = record { products = omega arith; masks = omega arith; ofA = omega arith; ofB = omega arith }
-    sum-small (s ∷ l) e =
-        let first : Sum = symbolSum s in
-        let rest : Sum = sumOf l in
-        let a = symbol-small s (and-left (known n names s) (every (known n names) l) e) in
-        let b = sum-small l (and-right (known n names s) (every (known n names) l) e) in
-        record {
-          products = xor-lt 64 (first .products) (rest .products) (a .products) (b .products);
-          masks = xor-lt 64 (first .masks) (rest .masks) (a .masks) (b .masks);
-          ofA = xor-lt 8 (first .«shares_a») (rest .«shares_a») (a .ofA) (b .ofA);
-          ofB = xor-lt 8 (first .«shares_b») (rest .«shares_b») (a .ofB) (b .ofB);
-        }
+  pub sum-small : (l : List Symbol) → every (known n names) l ≡ true → Fits (sumOf l)
+  sum-small [] e = none-fits
+  sum-small (s ∷ l) e = plus-fits (symbolSum s) (sumOf l) (symbol-small s (first-known s l e)) (sum-small l (others-known s l e))

@@ -10,17 +10,19 @@ use mathlib.Core.Bool.{false}
 use mathlib.Core.List.{List, [], _∷_, _++_, map}
 use lib.ListN.{length, getD, length-append}
 use lib.Seq.{getD-append-seam}
+use Rattle.limits.specs.Limits.{maxShares, maxMasks, maxWires}
 use Rattle.basics.specs.Told.{values}
 use Rattle.wires.specs.Wires.{Wire}
 use Rattle.wires.proofs.Narrow.{Within, within}
-use Rattle.records.specs.Layout.{field, decode, offsetOf, lengthOf, recordAt, wireAt, wireCount, wires, noSum}
+use Rattle.records.specs.Layout.{decode, kindOf, offsetOf, lengthOf, recordAt, wireAt, wireCount, wires, noSum}
 use Rattle.records.proofs.Bytes.{wires-none, wires-more}
+use Rattle.records.proofs.Encoding.{kind-low}
 use Rattle.table.specs.Answers.{tableCheck}
 use Rattle.table.proofs.Entries.{Sound, accepted-exactly}
 use Rattle.description.specs.Listing.{encode, recordsOf, wireOf}
 use Rattle.description.specs.Grammar.{Description, Spells, Limits, wiresOf, maskCount}
 use Rattle.description.specs.declared.Listed.{Listed}
-use Rattle.description.proofs.Encoding.{length-encode, length-records, flag-low, encoded-outer, encoded-offset, encoded-length}
+use Rattle.description.proofs.Encoding.{length-encode, length-records, encoded-outer, encoded-offset, encoded-length}
 use Rattle.description.proofs.Encoding.{decoded, record-of, record-count}
 use Rattle.description.proofs.Sums.{count-low}
 use Rattle.description.proofs.Fitting.{All, all-at, Fits, wires-fit}
@@ -72,26 +74,26 @@ module _ (text : List ℕ) (d : Description) (s : Spells text d) (l : Limits tex
       (sym (ap₂ _+_ (ap offsetOf at ∙ encoded-offset w (f .bounded)) (ap lengthOf at ∙ encoded-length w (f .bounded))))
       (f .part-within)
 
-  pub table-passes : length (wiresOf d) ≤ 512 → tableCheck (recordsOf (wiresOf d)) (d .order + 1) (maskCount (d .names)) ≡ values []
+  pub table-passes : length (wiresOf d) ≤ maxWires → tableCheck (recordsOf (wiresOf d)) (d .order + 1) (maskCount (d .names)) ≡ values []
   table-passes few = sym (accepted-exactly table (d .order + 1) (maskCount (d .names)) .1 sound)
     where
       count : wireCount table ≡ length ws
       count = record-count ws
 
-      bits : (k : ℕ) → k < wireCount table → Within 8 64 (d .order + 1) (maskCount (d .names)) (wireAt table k .terms)
+      bits : (k : ℕ) → k < wireCount table → Within maxShares maxMasks (d .order + 1) (maskCount (d .names)) (wireAt table k .terms)
       bits k h =
           let w : Listed = getD ws k anyWire in
           let i : k < length ws = subst (λ (n : ℕ). k < n) count h in
           let f = fits-at k i in
-          subst (λ (v : Wire). Within 8 64 (d .order + 1) (maskCount (d .names)) (v .terms))
+          subst (λ (v : Wire). Within maxShares maxMasks (d .order + 1) (maskCount (d .names)) (v .terms))
           (sym (ap decode (record-of ws k anyWire i) ∙ decoded w (f .bounded)))
-          (within 8 64 (d .order + 1) (maskCount (d .names)) (wireOf w .terms) (f .none-beyond))
+          (within maxShares maxMasks (d .order + 1) (maskCount (d .names)) (wireOf w .terms) (f .none-beyond))
 
-      flag : (k : ℕ) → k < wireCount table → field 18 1 (recordAt table k) ≤ 1
+      flag : (k : ℕ) → k < wireCount table → kindOf (recordAt table k) ≤ 1
       flag k h =
           let w : Listed = getD ws k anyWire in
           let i : k < length ws = subst (λ (n : ℕ). k < n) count h in
-          subst (λ (n : ℕ). n ≤ 1) (sym (ap (field 18 1) (record-of ws k anyWire i) ∙ encoded-outer w)) (flag-low (w .outer))
+          subst (λ (n : ℕ). n ≤ 1) (sym (ap kindOf (record-of ws k anyWire i) ∙ encoded-outer w)) (kind-low (w .outer))
 
       sound : Sound table (d .order + 1) (maskCount (d .names))
       sound =

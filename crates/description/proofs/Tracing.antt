@@ -6,24 +6,27 @@ use mathlib.Core.Path.{_≡_, refl, sym, _∙_, ap, ap₂}
 use mathlib.Core.Bool.{Bool, true, false, cond, _||_, true≢false, false≢true, or-assoc, or-false}
 use mathlib.Core.List.{List, [], _∷_, _++_, append-nil, append-assoc, reverseAux, reverseAux-append}
 use lib.Dec.{leb}
+use Rattle.limits.specs.Limits.{maxShares}
 use Rattle.basics.specs.Folds.{some, every}
 use Rattle.basics.proofs.Tests.{and-left, and-right}
 use Rattle.records.specs.Layout.{plusSum}
+use Rattle.records.specs.Symbols.{isIn, symbolSum}
+use Rattle.records.proofs.Naming.{sum-none}
 use Rattle.records.specs.declared.sums.Sum.{Sum}
-use Rattle.description.specs.Symbols.{isIn, symbolSum}
+use Rattle.description.specs.Symbols.{maxMask}
 use Rattle.description.specs.Listing.{symbolWire, additionWire, emptyGroup}
 use Rattle.description.specs.Run.{State, put, took, within, opened, symbolItem, groupItem}
 use Rattle.description.specs.Run as Run
 use Rattle.description.specs.Grammar.{Items, none, symbol, group, symbols, known, sumOf, sameSymbol, additionOf}
 use Rattle.description.specs.Grammar.{Event, used, addition, worked, further, eventWires}
-use Rattle.description.specs.declared.Symbol.{Symbol}
+use Rattle.wires.specs.declared.Symbol.{Symbol}
 use Rattle.description.specs.declared.PlacedSymbol.{PlacedSymbol}
 use Rattle.description.specs.declared.Listed.{Listed}
 use Rattle.description.specs.declared.Item.{Item}
 use Rattle.description.specs.declared.Group.{Group}
 use Rattle.description.proofs.Events.{known-group, symbols-group, adds, lastUsed, seenAfter}
 use Rattle.description.proofs.Events.{wires-append, seen-append, last-append, adds-append}
-use Rattle.description.proofs.Totals.{sum-none, sum-append}
+use Rattle.description.proofs.Sums.{sum-append}
 use Rattle.description.proofs.Seeing.{SeenBy, symbol-seen}
 use Rattle.description.proofs.After.{afterItems}
 
@@ -143,7 +146,7 @@ module _ (shares : ℕ) (names : List ℕ) where
           more .1,
         )
 
-  module _ (few : shares ≤ 8) (low : every (λ k. leb k 63) names ≡ true) where
+  module _ (few : shares ≤ maxShares) (low : every (λ k. leb k maxMask) names ≡ true) where
     follows-used : (p : PlacedSymbol) (s : State) (seen : List Symbol) → SeenBy shares names (s .seen) seen → known shares names (p .symbol) ≡ true
         → Follows (used p ∷ []) seen s (Run.used p s)
     follows-used p s seen h k = record {

@@ -4,51 +4,24 @@ use Prim.Native.Nat.{ℕ, _+_, _-_, _<_}
 use native.Mathlib.Omega.{arith}
 use mathlib.Core.Path.{_≡_, refl, sym, _∙_, ap, ap₂, subst}
 use mathlib.Core.Bool.{Bool, true, false, cond, _||_}
-use mathlib.Core.List.{List, [], _∷_, _++_, append-nil, append-assoc}
+use mathlib.Core.List.{List, [], _∷_, _++_, append-assoc}
 use borrow.Author.Tests.{leb-true}
 use lib.Dec.{eqb, leb}
 use lib.ListN.{length, drop, getD, take-append-drop}
 use lib.Seq.{drop-at, drop-length}
 use Rattle.basics.specs.Folds.{every}
 use Rattle.basics.proofs.Tests.{and-left, and-right}
-use Rattle.description.specs.Bytes.{space, lineEnd, opening, closing, comma, bracket, letterS, letterA, letterB, letterR, figure, word}
-use Rattle.description.specs.Symbols.{maskName, nameLength, spelling, formed, symbolLength, maskAt}
+use Rattle.description.specs.Bytes.{space, lineEnd, opening, closing, comma, bracket, letterR, figure, word}
+use Rattle.description.specs.Symbols.{maxMask, maskName, nameLength, spelling, formed, symbolLength, maskAt}
 use Rattle.description.specs.Run.{placed}
 use Rattle.description.specs.Grammar.{Items, none, symbol, group, Description, Byte, Bytes, counted, further-names, joined, headerText}
 use Rattle.description.specs.Grammar.{Spelled, end, spaced, a-symbol, a-group, Lines, last, line, Spells}
-use Rattle.description.specs.declared.Symbol.{Symbol}
-use Rattle.description.specs.declared.Symbol.the-variants.{Product, ShareA, ShareB, Mask}
-use Rattle.description.specs.declared.MaskName.{MaskName}
-use Rattle.description.specs.declared.MaskName.the-variants.{Number, NoName}
+use Rattle.wires.specs.declared.Symbol.{Symbol}
+use Rattle.description.specs.declared.MaskName.the-variants.{Number}
 use Rattle.description.proofs.Names.{name-length, digitHere, name-read}
-use Rattle.description.proofs.Spelling.{spelling-length}
+use Rattle.description.proofs.Spelling.{spelling-length, spelledBy, spelling-back}
 use Rattle.description.proofs.Places.{byte-inside, bytes-rest, word-joined, joined-byte}
 use Rattle.description.proofs.Following.{symbol-long, symbol-word}
-
--- ---- symbols
-
-abbrev named : MaskName → Symbol
-named NoName = Mask 0
-named (Number k) = Mask k
-
--- the symbol that has this spelling
-abbrev spelledBy : List ℕ → Symbol
-spelledBy [] = Mask 0
-spelledBy (c ∷ w) =
-    cond (eqb c letterS) (Product (getD w 0 0 - 48) (getD w 1 0 - 48))
-    (cond (eqb c letterA) (ShareA (getD w 0 0 - 48))
-    (cond (eqb c letterB) (ShareB (getD w 0 0 - 48))
-    (named (maskAt (c ∷ w)))))
-
-spelling-back : (s : Symbol) → formed s ≡ true → spelledBy (spelling s) ≡ s
-spelling-back (Product i j) f =
-    let first : figure i - 48 ≡ i = omega arith in
-    let second : figure j - 48 ≡ j = omega arith in
-    ap₂ {C = Symbol} (λ x y. Product x y) first second
-spelling-back (ShareA i) f = let back : figure i - 48 ≡ i = omega arith in ap {B = Symbol} (λ x. ShareA x) back
-spelling-back (ShareB j) f = let back : figure j - 48 ≡ j = omega arith in ap {B = Symbol} (λ x. ShareB x) back
-spelling-back (Mask k) f =
-    ap named (ap maskAt (sym (append-nil (maskName k))) ∙ name-read k [] (leb-true k 63 f) refl)
 
 -- ---- items
 
@@ -159,11 +132,11 @@ module _ (text : List ℕ) where
 -- ---- the header
 
 -- a name and what follows it, where no digit follows
-name-once : (k l : ℕ) (s t : List ℕ) → leb k 63 ≡ true → leb l 63 ≡ true → digitHere s ≡ false → digitHere t ≡ false
+name-once : (k l : ℕ) (s t : List ℕ) → leb k maxMask ≡ true → leb l maxMask ≡ true → digitHere s ≡ false → digitHere t ≡ false
     → maskName k ++ s ≡ maskName l ++ t → (k ≡ l) × (s ≡ t)
 name-once k l s t low low′ d d′ e =
     let number : Number k ≡ Number l =
-    sym (name-read k s (leb-true k 63 low) d) ∙ ap maskAt e ∙ name-read l t (leb-true l 63 low′) d′ in
+    sym (name-read k s (leb-true k maxMask low) d) ∙ ap maskAt e ∙ name-read l t (leb-true l maxMask low′) d′ in
     let same : k ≡ l = cc in (
       same,
       sym (drop-at (maskName k) s (nameLength k) (name-length k)) ∙ ap₂ (λ (x : ℕ) w. drop (nameLength x) w) same e
@@ -175,21 +148,21 @@ further-digit [] rest = refl
 further-digit (k ∷ ks) rest = refl
 
 -- names up to the bracket that closes the list
-further-once : (ks ls s t : List ℕ) → every (λ k. leb k 63) ks ≡ true → every (λ k. leb k 63) ls ≡ true
+further-once : (ks ls s t : List ℕ) → every (λ k. leb k maxMask) ks ≡ true → every (λ k. leb k maxMask) ls ≡ true
     → further-names ks ++ (bracket ∷ s) ≡ further-names ls ++ (bracket ∷ t) → ks ≡ ls
 further-once [] [] s t low low′ e = refl
 further-once [] (l ∷ ls) s t low low′ e = let z : _≡_ {A = ℕ} bracket comma = ap (λ w. getD w 0 0) e in absurd (omega (arith, z))
 further-once (k ∷ ks) [] s t low low′ e = let z : _≡_ {A = ℕ} comma bracket = ap (λ w. getD w 0 0) e in absurd (omega (arith, z))
 further-once (k ∷ ks) (l ∷ ls) s t low low′ e =
-    let all : List ℕ → Bool = every (λ k. leb k 63) in
+    let all : List ℕ → Bool = every (λ k. leb k maxMask) in
     let first =
-    name-once k l (further-names ks ++ (bracket ∷ s)) (further-names ls ++ (bracket ∷ t)) (and-left (leb k 63) (all ks) low)
-    (and-left (leb l 63) (all ls) low′) (further-digit ks s) (further-digit ls t)
+    name-once k l (further-names ks ++ (bracket ∷ s)) (further-names ls ++ (bracket ∷ t)) (and-left (leb k maxMask) (all ks) low)
+    (and-left (leb l maxMask) (all ls) low′) (further-digit ks s) (further-digit ls t)
     (sym (append-assoc (maskName k) (further-names ks) (bracket ∷ s)) ∙ ap (drop 2) e ∙ append-assoc (maskName l) (further-names ls) (bracket ∷ t)) in
     ap₂ {C = List ℕ} (λ x xs. x ∷ xs) (first .0)
-    (further-once ks ls s t (and-right (leb k 63) (all ks) low) (and-right (leb l 63) (all ls) low′) (first .1))
+    (further-once ks ls s t (and-right (leb k maxMask) (all ks) low) (and-right (leb l maxMask) (all ls) low′) (first .1))
 
-joined-once : (ks ls s t : List ℕ) → every (λ k. leb k 63) ks ≡ true → every (λ k. leb k 63) ls ≡ true
+joined-once : (ks ls s t : List ℕ) → every (λ k. leb k maxMask) ks ≡ true → every (λ k. leb k maxMask) ls ≡ true
     → joined ks ++ (bracket ∷ s) ≡ joined ls ++ (bracket ∷ t) → ks ≡ ls
 joined-once [] [] s t low low′ e = refl
 joined-once [] (l ∷ ls) s t low low′ e = let z : _≡_ {A = ℕ} bracket letterR = ap (λ w. getD w 0 0) e in absurd (omega (arith, z))

@@ -30,16 +30,18 @@ use mathlib.Core.Bool.{Bool, true, false, cond, _&&_, not}
 use mathlib.Core.List.{List, [], _∷_, _++_, map}
 use lib.Dec.{eqb, ltb, leb}
 use lib.ListN.{length, take, drop}
+use Rattle.limits.specs.Limits.{maxOrder}
 use Rattle.basics.specs.Folds.{fold, some, every}
+use Rattle.wires.specs.declared.Symbol.{Symbol}
+use Rattle.wires.specs.declared.Symbol.the-variants.{Product, ShareA, ShareB, Mask}
 use Rattle.records.specs.Layout.{noSum, plusSum}
+use Rattle.records.specs.Symbols.{symbolSum}
 use Rattle.records.specs.declared.sums.Sum.{Sum}
 use Rattle.description.specs.Bytes.{space, lineEnd, opening, closing, comma, bracket, orderWord, masksWord, figure, word, ended, same}
-use Rattle.description.specs.Symbols.{symbolSum, symbolLength, maskName, spelling, formed}
+use Rattle.description.specs.Symbols.{maxMask, symbolLength, maskName, spelling, formed}
 use Rattle.description.specs.Header.{larger}
 use Rattle.description.specs.Listing.{symbolWire, madeOuter, outerWire}
 use Rattle.description.specs.Run.{maxText, maxDepth, placed}
-use Rattle.description.specs.declared.Symbol.{Symbol}
-use Rattle.description.specs.declared.Symbol.the-variants.{Product, ShareA, ShareB, Mask}
 use Rattle.description.specs.declared.PlacedSymbol.{PlacedSymbol}
 use Rattle.description.specs.declared.Listed.{Listed}
 
@@ -104,8 +106,8 @@ once [] = true
 once (k ∷ ks) = not (member k ks) && once ks
 
 pub record Spells (text : List ℕ) (d : Description) : Type 0 where
-  pub order-digit : (1 ≤ d .order) × (d .order ≤ 7)
-  pub name-numbers : every (λ k. leb k 63) (d .names) ≡ true
+  pub order-digit : (1 ≤ d .order) × (d .order ≤ maxOrder)
+  pub name-numbers : every (λ k. leb k maxMask) (d .names) ≡ true
   pub names-once : once (d .names) ≡ true
   pub header : Bytes text 0 (headerText (d .order) (d .names))
   pub header-end : ended (drop (length (headerText (d .order) (d .names))) text) ≡ true

@@ -14,8 +14,9 @@ use mathlib.Core.List.{List, [], _∷_}
 use lib.Bits.{bitXor}
 use lib.Dec.{eqb, ltb, leb}
 use lib.ListN.{take, drop}
+use Rattle.limits.specs.Limits.{maxOrder}
 use Rattle.records.specs.Words.{bit}
-use Rattle.description.specs.Bytes.{space, comma, bracket, orderWord, masksWord, ended, same}
+use Rattle.description.specs.Bytes.{space, comma, bracket, orderWord, masksWord, figure, ended, same}
 use Rattle.description.specs.Symbols.{nameLength, maskAt}
 use Rattle.description.specs.declared.MaskName.{MaskName}
 use Rattle.description.specs.declared.MaskName.the-variants.{Number, NoName}
@@ -26,7 +27,7 @@ use Rattle.description.specs.declared.MasksLine.{MasksLine}
 -- one digit 1 to 7, and the line's end
 abbrev pub orderDigit : List ℕ → OrderLine
 orderDigit [] = OrderLine.Wrong
-orderDigit (c ∷ l) = cond (leb 49 c && leb c 55 && ended l) (OrderLine.Order (c - 48)) OrderLine.Wrong
+orderDigit (c ∷ l) = cond (leb (figure 1) c && leb c (figure maxOrder) && ended l) (OrderLine.Order (c - 48)) OrderLine.Wrong
 
 unfoldable pub orderLine : List ℕ → OrderLine
 orderLine text = cond (same (take 8 text) orderWord) (orderDigit (drop 8 text)) OrderLine.Wrong

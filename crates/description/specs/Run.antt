@@ -18,6 +18,7 @@
 --     Outcome, finish     what a run comes to; the text's end
 --     run, runAt          the run over the bytes from a place on
 --     Reading, listed     what reading comes to, and so after the run
+--     secondAt            the place of the second line
 --     secondLine          where the second line starts, or the text's length
 --     afterMasks, afterOrder, reading     the reading of a whole text, from its end to its start
 use Prim.Native.Nat.{ℕ, zero, suc, _+_, _-_}
@@ -25,13 +26,14 @@ use mathlib.Core.Bool.{Bool, false, cond, _||_}
 use mathlib.Core.List.{List, [], _∷_, reverse}
 use lib.Dec.{eqb, ltb}
 use lib.ListN.{length, drop}
+use Rattle.wires.specs.declared.Symbol.{Symbol}
 use Rattle.records.specs.Layout.{noSum, plusSum}
+use Rattle.records.specs.Symbols.{symbolSum, isIn}
 use Rattle.records.specs.declared.sums.Sum.{Sum}
 use Rattle.description.specs.Bytes.{space, lineEnd, opening, closing, bar, word}
-use Rattle.description.specs.Symbols.{symbolSum, symbolLength, isIn, symbolRead}
+use Rattle.description.specs.Symbols.{symbolLength, symbolRead}
 use Rattle.description.specs.Header.{orderLine, masksLine}
 use Rattle.description.specs.Listing.{symbolWire, madeOuter, outerWire, emptyGroup, additionWire, putInto}
-use Rattle.description.specs.declared.Symbol.{Symbol}
 use Rattle.description.specs.declared.PlacedSymbol.{PlacedSymbol}
 use Rattle.description.specs.declared.SymbolAnswer.{SymbolAnswer}
 use Rattle.description.specs.declared.Listed.{Listed}
@@ -221,9 +223,13 @@ abbrev pub listed : ℕ → ℕ → Outcome → Reading
 listed order masks (done s) = read order masks (reverse (s .wires))
 listed order masks (refused why at) = turnedDown why at
 
+-- the first line is `ORDER = `, one digit and a line end
+abbrev pub secondAt : ℕ
+secondAt = 10
+
 -- where the second line starts, or the text's length
 abbrev pub secondLine : List ℕ → ℕ
-secondLine text = cond (ltb (length text) 10) (length text) 10
+secondLine text = cond (ltb (length text) secondAt) (length text) secondAt
 
 -- shares are order + 1
 abbrev pub afterMasks : List ℕ → ℕ → MasksLine → Reading
@@ -232,7 +238,7 @@ afterMasks text order (MasksLine.Declared m) = listed order (m .count) (runAt (o
 
 abbrev pub afterOrder : List ℕ → OrderLine → Reading
 afterOrder text OrderLine.Wrong = turnedDown WrongOrderLine 0
-afterOrder text (OrderLine.Order order) = afterMasks text order (masksLine 10 (drop 10 text))
+afterOrder text (OrderLine.Order order) = afterMasks text order (masksLine secondAt (drop secondAt text))
 
 -- 1: over 4,096 bytes, before all else; 2: first line wrong; 3: second line wrong or absent
 abbrev pub reading : List ℕ → Reading

@@ -1,46 +1,30 @@
 -- Symbols (scope, "The description text"): `s` and two digits i j, the product of share i of a and share j of b; `a` or `b` and one digit, that
 -- share; `r` and a number, that mask.
---     sumWith                  a sum of these words
---     symbolSum s              the sum that names this symbol alone
---     isIn s t                 whether a sum names the symbol
 --     nameLength k, maskName k     how many bytes the name of mask k has, and which
+--     shareFigures             how many shares a byte can write
+--     shareFigure i, shareOf c     the byte that writes share i, and the share that byte c writes
+--     maxMask                  the highest number of a mask
 --     spelling s               the bytes of a symbol
 --     formed s                 whether a symbol can be spelled
 --     symbolLength s           how many bytes that are
 --     maskNumber, maskAt l     the mask whose name stands at the start of l: r and a number 0 to 63 without leading zeros
---     shareDigit n c           whether c is the digit of a share below n
+--     shareDigit n c           whether c writes a share below n
 --     productRead, shareRead, namedRead     what follows the letter of a product, of a share; a mask's name and nothing after it
 --     symbolRead n d w         what the run of bytes w is, for n shares and the declared masks d
-use Prim.Native.Nat.{ℕ, _+_, _*_, _-_, _/_, _%_, _^_}
+use Prim.Native.Nat.{ℕ, _+_, _*_, _-_, _/_, _%_}
 use mathlib.Core.Bool.{Bool, cond, _&&_, _||_}
 use mathlib.Core.List.{List, [], _∷_}
 use lib.Dec.{eqb, ltb, leb}
 use lib.ListN.{length}
+use Rattle.limits.specs.Limits.{maxMasks}
+use Rattle.wires.specs.declared.Symbol.{Symbol}
+use Rattle.wires.specs.declared.Symbol.the-variants.{Product, ShareA, ShareB, Mask}
 use Rattle.records.specs.Words.{bit}
-use Rattle.records.specs.declared.sums.Sum.{Sum}
 use Rattle.description.specs.Bytes.{letterS, letterA, letterB, letterR, digit, figure}
-use Rattle.description.specs.declared.Symbol.{Symbol}
-use Rattle.description.specs.declared.Symbol.the-variants.{Product, ShareA, ShareB, Mask}
 use Rattle.description.specs.declared.MaskName.{MaskName}
 use Rattle.description.specs.declared.MaskName.the-variants.{Number, NoName}
 use Rattle.description.specs.declared.SymbolAnswer.{SymbolAnswer}
 use Rattle.description.specs.declared.SymbolAnswer.the-variants.{Known, NoSuch, NotDeclared}
-
-abbrev pub sumWith : ℕ → ℕ → ℕ → ℕ → Sum
-sumWith products masks a b = record { products = products; masks = masks; «shares_a» = a; «shares_b» = b }
-
--- bit 8i + j for a product, bit i or j for a share, bit k for a mask
-abbrev pub symbolSum : Symbol → Sum
-symbolSum (Product i j) = sumWith (2 ^ (8 * i + j)) 0 0 0
-symbolSum (ShareA i) = sumWith 0 0 (2 ^ i) 0
-symbolSum (ShareB j) = sumWith 0 0 0 (2 ^ j)
-symbolSum (Mask k) = sumWith 0 (2 ^ k) 0 0
-
-abbrev pub isIn : Symbol → Sum → Bool
-isIn (Product i j) t = bit (t .products) (8 * i + j)
-isIn (ShareA i) t = bit (t .«shares_a») i
-isIn (ShareB j) t = bit (t .«shares_b») j
-isIn (Mask k) t = bit (t .masks) k
 
 abbrev pub nameLength : ℕ → ℕ
 nameLength k = cond (ltb k 10) 2 3
@@ -48,18 +32,32 @@ nameLength k = cond (ltb k 10) 2 3
 abbrev pub maskName : ℕ → List ℕ
 maskName k = letterR ∷ cond (ltb k 10) (figure k ∷ []) (figure (k / 10) ∷ figure (k % 10) ∷ [])
 
+-- a digit for a share
+abbrev pub shareFigures : ℕ
+shareFigures = 10
+
+abbrev pub shareFigure : ℕ → ℕ
+shareFigure i = figure i
+
+abbrev pub shareOf : ℕ → ℕ
+shareOf c = c - 48
+
+-- the highest number of a mask
+abbrev pub maxMask : ℕ
+maxMask = maxMasks - 1
+
 abbrev pub spelling : Symbol → List ℕ
-spelling (Product i j) = letterS ∷ figure i ∷ figure j ∷ []
-spelling (ShareA i) = letterA ∷ figure i ∷ []
-spelling (ShareB j) = letterB ∷ figure j ∷ []
+spelling (Product i j) = letterS ∷ shareFigure i ∷ shareFigure j ∷ []
+spelling (ShareA i) = letterA ∷ shareFigure i ∷ []
+spelling (ShareB j) = letterB ∷ shareFigure j ∷ []
 spelling (Mask k) = maskName k
 
--- digits 0 to 9, a mask's number 0 to 63
+-- a share that a byte can write, a mask's number 0 to 63
 abbrev pub formed : Symbol → Bool
-formed (Product i j) = ltb i 10 && ltb j 10
-formed (ShareA i) = ltb i 10
-formed (ShareB j) = ltb j 10
-formed (Mask k) = leb k 63
+formed (Product i j) = ltb i shareFigures && ltb j shareFigures
+formed (ShareA i) = ltb i shareFigures
+formed (ShareB j) = ltb j shareFigures
+formed (Mask k) = leb k maxMask
 
 abbrev pub symbolLength : Symbol → ℕ
 symbolLength (Product i j) = 3
@@ -72,7 +70,7 @@ abbrev pub maskNumber : ℕ → List ℕ → MaskName
 maskNumber i [] = Number (i - 48)
 maskNumber i (j ∷ l) =
     cond (digit j)
-    (cond (eqb i 48 || ltb 63 (10 * (i - 48) + (j - 48))) NoName (Number (10 * (i - 48) + (j - 48))))
+    (cond (eqb i 48 || ltb maxMask (10 * (i - 48) + (j - 48))) NoName (Number (10 * (i - 48) + (j - 48))))
     (Number (i - 48))
 
 abbrev pub maskAt : List ℕ → MaskName
@@ -80,19 +78,19 @@ maskAt [] = NoName
 maskAt (c ∷ []) = NoName
 maskAt (c ∷ i ∷ l) = cond (eqb c letterR && digit i) (maskNumber i l) NoName
 
--- the digit of a share below n
+-- a byte that writes a share, and the share is below n
 abbrev pub shareDigit : ℕ → ℕ → Bool
-shareDigit n c = leb 48 c && ltb c (48 + n)
+shareDigit n c = eqb (shareFigure (shareOf c)) c && ltb (shareOf c) n
 
 abbrev pub productRead : ℕ → List ℕ → SymbolAnswer
 productRead n [] = NoSuch
 productRead n (i ∷ []) = NoSuch
-productRead n (i ∷ j ∷ []) = cond (shareDigit n i && shareDigit n j) (Known (Product (i - 48) (j - 48))) NoSuch
+productRead n (i ∷ j ∷ []) = cond (shareDigit n i && shareDigit n j) (Known (Product (shareOf i) (shareOf j))) NoSuch
 productRead n (i ∷ j ∷ k ∷ l) = NoSuch
 
 abbrev pub shareRead : (ℕ → Symbol) → ℕ → List ℕ → SymbolAnswer
 shareRead share n [] = NoSuch
-shareRead share n (i ∷ []) = cond (shareDigit n i) (Known (share (i - 48))) NoSuch
+shareRead share n (i ∷ []) = cond (shareDigit n i) (Known (share (shareOf i))) NoSuch
 shareRead share n (i ∷ j ∷ l) = NoSuch
 
 -- a mask's name and nothing after it

@@ -2,14 +2,7 @@
 ghost use mathlib.Core.Path.{_≡_};
 ghost use Rattle.description.specs.Run.{refusalNumber};
 use records::sums::Sum;
-
-// What a symbol names: the product of share i of a and share j of b, share i of a, share j of b, mask k.
-pub enum Symbol {
-    Product(usize, usize),
-    ShareA(usize),
-    ShareB(usize),
-    Mask(usize),
-}
+use wires::Symbol;
 
 // A symbol, known with the place it starts.
 pub struct PlacedSymbol {

@@ -14,13 +14,14 @@ use mathlib.Core.Bool.{Bool, true, false, cond, not, _||_, true≢false, or-true
 use mathlib.Core.List.{List, _∷_}
 use lib.Dec.{ltb}
 use Rattle.basics.specs.Folds.{oneIf}
+use Rattle.wires.specs.declared.Symbol.{Symbol}
+use Rattle.wires.specs.declared.Symbol.the-variants.{Product, ShareA, ShareB, Mask}
 use Rattle.records.specs.Layout.{plusSum}
+use Rattle.records.specs.Symbols.{symbolSum, isIn}
 use Rattle.records.specs.declared.sums.Sum.{Sum}
-use Rattle.description.specs.Symbols.{symbolSum, symbolLength, isIn}
+use Rattle.description.specs.Symbols.{symbolLength}
 use Rattle.description.specs.Listing.{symbolWire, madeOuter, outerWire, emptyGroup, additionWire}
 use Rattle.description.specs.Run.{Around, State, used, put, took, symbolItem, lineDone, newestOuter}
-use Rattle.description.specs.declared.Symbol.{Symbol}
-use Rattle.description.specs.declared.Symbol.the-variants.{Product, ShareA, ShareB, Mask}
 use Rattle.description.specs.declared.PlacedSymbol.{PlacedSymbol}
 use Rattle.description.specs.declared.Item.{Item}
 use Rattle.description.specs.declared.Group.{Group}

@@ -1,32 +1,24 @@
 -- How far the code's reading has come, and what it stands for in the run.
---     Small                    a symbol whose bit stands within a record
---     Held                     the table holds the records of the wires listed, newest first, as far as 512 of them
+--     Held                     the table holds the records of the wires listed, newest first, as far as there is room
 --     stateOf, Stands          the state of the run that the code's progress stands for
 --     usedProgress, putProgress, tookProgress, lineProgress      the progress after a symbol's use, an item, a symbol taken as an item, a line
 --     Lists, MakesOuter        one wire more is listed; the newest is made the outer one of a line
 --     Follows                  the progress stands for the state that a step of the run makes of the one before
-use Prim.Native.Nat.{ℕ, _+_, _*_, _≤_, _<_}
+use Prim.Native.Nat.{ℕ, _+_, _*_, _≤_}
 use mathlib.Core.Path.{_≡_}
 use mathlib.Core.Bool.{false, cond, not, _||_}
 use mathlib.Core.List.{List, _∷_, reverse}
 use lib.ListN.{length, take}
+use Rattle.limits.specs.Limits.{maxWires, recordBytes}
 use Rattle.basics.specs.Folds.{oneIf}
-use Rattle.records.specs.Layout.{recordBytes, plusSum}
-use Rattle.description.specs.Symbols.{symbolSum, isIn}
-use Rattle.description.specs.Listing.{maxWires, recordsOf, putInto, emptyGroup}
+use Rattle.records.specs.Layout.{plusSum}
+use Rattle.records.specs.Symbols.{symbolSum, isIn}
+use Rattle.description.specs.Listing.{recordsOf, putInto, emptyGroup}
 use Rattle.description.specs.Run.{Around, State, symbolItem, newestOuter}
-use Rattle.description.specs.declared.Symbol.{Symbol}
-use Rattle.description.specs.declared.Symbol.the-variants.{Product, ShareA, ShareB, Mask}
 use Rattle.description.specs.declared.PlacedSymbol.{PlacedSymbol}
 use Rattle.description.specs.declared.Item.{Item}
 use Rattle.description.specs.declared.Listed.{Listed}
 use Rattle.listing.specs.declared.Progress.{Progress}
-
-abbrev pub Small : Symbol → Type 0
-Small (Product i j) = (i < 8) × (j < 8)
-Small (ShareA i) = i < 8
-Small (ShareB j) = j < 8
-Small (Mask k) = k < 64
 
 pub record Held (table : List ℕ) (n : ℕ) (ws : List Listed) : Type 0 where
   pub count : n ≡ length ws

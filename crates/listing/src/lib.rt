@@ -1,36 +1,28 @@
-// The wires as they are listed into a table of 12,288 bytes, and how far the reading has come. Wires are counted on past the 512th, and
-// written no more.
+// The wires as they are listed into a table of MAX_TABLE_BYTES bytes, and how far the reading has come. Wires are counted on past
+// MAX_WIRES, and written no more.
 ghost use mathlib.Core.Path.{_≡_};
-ghost use Prim.Native.Nat.{_≤_, _<_, _+_, _*_};
+ghost use Prim.Native.Nat.{_≤_, _<_};
 ghost use lib.ListN.{length};
-ghost use lib.Seq.{sets};
-ghost use Rattle.basics.specs.Folds.{oneIf};
-ghost use Rattle.description.specs.Listing.{bytesOf, encode, sumBytes, placeBytes, symbolWire, emptyGroup};
-ghost use Rattle.description.specs.Run.{used, put, took, lineDone};
-ghost use Rattle.listing.specs.Progress.{Small, usedProgress, putProgress, tookProgress, lineProgress, Lists, MakesOuter, Follows};
+ghost use Rattle.limits.specs.Limits.{maxShares, maxTableBytes};
+ghost use Rattle.records.specs.Symbols.{Small};
+ghost use Rattle.description.specs.Listing.{symbolWire, emptyGroup};
+ghost use Rattle.description.specs.Run.{maxText, used, put, took, lineDone};
+ghost use Rattle.listing.specs.Progress.{usedProgress, putProgress, tookProgress, lineProgress, Lists, MakesOuter, Follows};
 use description::Group;
 use description::Item;
 use description::Listed;
 use description::PlacedSymbol;
-use records::layout::LENGTH_AT;
-use records::layout::LINE_AT;
-use records::layout::MASKS_AT;
-use records::layout::OFFSET_AT;
-use records::layout::OUTER_AT;
-use records::layout::RECORD_BYTES;
-use records::layout::SHARES_A_AT;
-use records::layout::SHARES_B_AT;
-use records::layout::wide;
+use limits::MAX_WIRES;
 use records::sums::Sum;
 use records::sums::added;
 use records::sums::nothing;
-use symbols::is_in;
+use records::symbols::is_in;
+use records::symbols::symbol_sum;
+use records::writing::write_outer;
+use records::writing::write_record;
 use symbols::symbol_length;
-use symbols::symbol_sum;
 
 pub mod symbols;
-
-pub const MAX_WIRES: usize = 512;
 
 // How far the reading has come: the place in the text, the wires listed, the symbols used, the output lines done, whether this line has an
 // addition, the last symbol, and the innermost open group.
@@ -44,82 +36,34 @@ pub struct Progress {
     pub group: Group,
 }
 
-// Writes a number as so many bytes, the lowest first.
-fn write_number(table: &mut [u8], at: usize, size: usize, number: u64)
-    requires { ⌜ at + size ≤ length (now table) ⌝ }
-    ensures { λ _. ⌜ now (table .exit) ≡ sets (now (table .entry)) at (bytesOf size number) ⌝ }
-{
-    let mut rest = number;
-    for i in 0..size {
-        table[at + i] = (rest % 256) as u8;
-        rest = rest / 256;
-    }
-}
-
-// Writes a sum: products, masks, shares of a, shares of b.
-fn write_sum(table: &mut [u8], at: usize, sum: Sum)
-    requires { ⌜ (at + 24 ≤ length (now table)) × (length (now table) ≡ 12288) ⌝ }
-    ensures { λ _. ⌜ now (table .exit) ≡ sets (now (table .entry)) at (sumBytes sum) ⌝ }
-{
-    write_number(table, at, 8, sum.products);
-    write_number(table, at + MASKS_AT, 8, sum.masks);
-    write_number(table, at + SHARES_A_AT, 1, wide(sum.shares_a));
-    write_number(table, at + SHARES_B_AT, 1, wide(sum.shares_b));
-}
-
-// Writes what a record says of the text: 0 inner or 1 outer, output line, offset, length.
-fn write_place(table: &mut [u8], at: usize, wire: Listed)
-    requires { ⌜ (at + 24 ≤ length (now table)) × (length (now table) ≡ 12288) ⌝ }
-    ensures { λ _. ⌜ now (table .exit) ≡ sets (now (table .entry)) (at + 18) (placeBytes wire) ⌝ }
-{
-    write_number(table, at + OUTER_AT, 1, one_if(wire.outer));
-    write_number(table, at + LINE_AT, 1, wire.line as u64);
-    write_number(table, at + OFFSET_AT, 2, wire.offset as u64);
-    write_number(table, at + LENGTH_AT, 2, wire.length as u64);
-}
-
-// 1 for an outer wire, 0 for an inner one.
-fn one_if(outer: bool) -> u64
-    ensures { λ r. ⌜ r ≡ oneIf outer ⌝ }
-{
-    if outer {
-        return 1;
-    }
-    0
-}
-
-// Writes the record of a wire.
-fn write_record(table: &mut [u8], number: usize, wire: Listed)
-    requires { ⌜ (number < 512) × (length (now table) ≡ 12288) ⌝ }
-    ensures { λ _. ⌜ now (table .exit) ≡ sets (now (table .entry)) (24 * number) (encode wire) ⌝ }
-{
-    let at = RECORD_BYTES * number;
-    write_sum(table, at, wire.sum);
-    write_place(table, at, wire);
-}
-
 // Lists one wire more.
 fn list_wire(table: &mut [u8], wires: usize, wire: Listed)
-    requires { ⌜ length (now table) ≡ 12288 ⌝ }
+    requires { ⌜ length (now table) ≡ maxTableBytes ⌝ }
     ensures { λ _. ⌜ Lists (now (table .entry)) wires (now (table .exit)) wire ⌝ }
 {
     if wires < MAX_WIRES {
-        write_record(table, wires, wire);
+        write_record(
+            table,
+            wires,
+            wire.sum,
+            wire.outer,
+            wire.line,
+            wire.offset,
+            wire.length,
+        );
     }
 }
 
 // Makes the newest wire the outer one of a line.
 fn make_outer(table: &mut [u8], wires: usize, line: usize)
-    requires { ⌜ length (now table) ≡ 12288 ⌝ }
+    requires { ⌜ length (now table) ≡ maxTableBytes ⌝ }
     ensures { λ _. ⌜ MakesOuter (now (table .entry)) wires (now (table .exit)) line ⌝ }
 {
     if wires == 0 {
         return;
     }
     if wires <= MAX_WIRES {
-        let at = RECORD_BYTES * (wires - 1);
-        write_number(table, at + OUTER_AT, 1, 1);
-        write_number(table, at + LINE_AT, 1, line as u64);
+        write_outer(table, wires - 1, line);
     }
 }
 
@@ -140,7 +84,7 @@ fn symbol_wire(known: PlacedSymbol) -> Listed
 
 // A symbol is used: its first use lists a wire.
 fn use_symbol(table: &mut [u8], progress: Progress, known: PlacedSymbol) -> Progress
-    requires { ⌜ (length (now table) ≡ 12288) × (progress .wires < 65536) × Small (known .symbol) ⌝ }
+    requires { ⌜ (length (now table) ≡ maxTableBytes) × (progress .wires < 65536) × Small (known .symbol) ⌝ }
     ensures { λ r. ⌜ r ≡ usedProgress known progress ⌝ }
     ensures { λ r. ⌜ Follows (now (table .entry)) progress (now (table .exit)) r (used known) ⌝ }
 {
@@ -160,7 +104,7 @@ fn use_symbol(table: &mut [u8], progress: Progress, known: PlacedSymbol) -> Prog
 
 // An item is put into the innermost group: the first begins it, any other is added, and the addition lists a wire.
 pub fn put_item(table: &mut [u8], progress: Progress, item: Item) -> Progress
-    requires { ⌜ (length (now table) ≡ 12288) × (progress .wires < 65536) ⌝ }
+    requires { ⌜ (length (now table) ≡ maxTableBytes) × (progress .wires < 65536) ⌝ }
     requires { ⌜ progress .group .first ≤ item .end ⌝ }
     ensures { λ r. ⌜ r ≡ putProgress item progress ⌝ }
     ensures { λ r. ⌜ Follows (now (table .entry)) progress (now (table .exit)) r (put item) ⌝ }
@@ -203,8 +147,8 @@ pub fn put_item(table: &mut [u8], progress: Progress, item: Item) -> Progress
 
 // A symbol is taken as an item: its wire comes before the addition that takes it.
 pub fn take_symbol(table: &mut [u8], progress: Progress, known: PlacedSymbol) -> Progress
-    requires { ⌜ (length (now table) ≡ 12288) × (progress .wires < 65535) × Small (known .symbol) ⌝ }
-    requires { ⌜ (progress .group .first ≤ known .place) × (known .place ≤ 4096) ⌝ }
+    requires { ⌜ (length (now table) ≡ maxTableBytes) × (progress .wires < 65535) × Small (known .symbol) ⌝ }
+    requires { ⌜ (progress .group .first ≤ known .place) × (known .place ≤ maxText) ⌝ }
     ensures { λ r. ⌜ r ≡ tookProgress known progress ⌝ }
     ensures { λ r. ⌜ Follows (now (table .entry)) progress (now (table .exit)) r (took known) ⌝ }
 {
@@ -221,7 +165,7 @@ pub fn take_symbol(table: &mut [u8], progress: Progress, known: PlacedSymbol) ->
 
 // An output line is done: its last addition is an outer wire, or a single symbol gets an outer wire of its own.
 pub fn end_line(table: &mut [u8], progress: Progress) -> Progress
-    requires { ⌜ (length (now table) ≡ 12288) × (progress .wires < 65536) × (progress .lines < 8) × Small (progress .last .symbol) ⌝ }
+    requires { ⌜ (length (now table) ≡ maxTableBytes) × (progress .wires < 65536) × (progress .lines < maxShares) × Small (progress .last .symbol) ⌝ }
     ensures { λ r. ⌜ r ≡ lineProgress progress ⌝ }
     ensures { λ r. ⌜ Follows (now (table .entry)) progress (now (table .exit)) r lineDone ⌝ }
 {

@@ -11,21 +11,22 @@ use native.Mathlib.Omega.{arith}
 use mathlib.Core.Path.{_≡_, refl, sym, _∙_, ap, subst}
 use mathlib.Core.Bool.{Bool, true, false, cond, not, _&&_}
 use mathlib.Core.List.{List, [], _∷_}
-use borrow.Author.Tests.{ltb-true, leb-true, eqb-true, ne-eqb}
-use lib.Dec.{eqb, ltb, leb}
+use borrow.Author.Tests.{ltb-true, eqb-true, ne-eqb}
+use lib.Dec.{eqb}
 use lib.ListN.{length, take, drop, getD, length-drop}
 use lib.Seq.{take-at, length-take-le}
 use Rattle.limits.specs.Limits.{maxShares}
 use Rattle.basics.specs.Folds.{oneIf}
 use Rattle.basics.proofs.Tests.{and-left, and-right}
+use Rattle.wires.specs.declared.Symbol.{Symbol}
+use Rattle.wires.specs.declared.Symbol.the-variants.{Product, ShareA, ShareB, Mask}
 use Rattle.records.specs.Words.{bit}
+use Rattle.records.specs.Symbols.{isIn, Small}
 use Rattle.description.specs.Bytes.{letterS, letterA, letterB, parts, word}
-use Rattle.description.specs.Symbols.{isIn, nameLength, maskAt, shareDigit, productRead, shareRead, namedRead, symbolRead, symbolLength}
+use Rattle.description.specs.Symbols.{nameLength, maskAt, shareDigit, productRead, shareRead, namedRead, symbolRead, symbolLength}
 use Rattle.records.specs.Layout.{plusSum}
 use Rattle.description.specs.Listing.{putInto}
 use Rattle.description.specs.Run.{State, runAt, placed, took, symbolItem}
-use Rattle.description.specs.declared.Symbol.{Symbol}
-use Rattle.description.specs.declared.Symbol.the-variants.{Product, ShareA, ShareB, Mask}
 use Rattle.description.specs.declared.Item.{Item}
 use Rattle.description.specs.declared.Group.{Group}
 use Rattle.description.specs.declared.MaskName.{MaskName}
@@ -34,12 +35,13 @@ use Rattle.description.specs.declared.SymbolAnswer.{SymbolAnswer}
 use Rattle.description.specs.declared.SymbolAnswer.the-variants.{Known, NoSuch, NotDeclared}
 use Rattle.description.specs.declared.Refusal.the-variants.{NoSuchSymbol, MaskNotDeclared}
 use Rattle.description.proofs.Names.{read-name}
+use Rattle.description.proofs.Spelling.{figure-share}
 use Rattle.description.proofs.Running.{drop-byte}
 use Rattle.description.proofs.Places.{word-rest, word-inside}
 use Rattle.description.proofs.Following.{symbol-long}
 use Rattle.description.proofs.Passing.{at-symbol, no-such, not-declared}
 use Rattle.listing.specs.declared.Progress.{Progress}
-use Rattle.listing.specs.Progress.{Small, Stands, tookProgress, Follows}
+use Rattle.listing.specs.Progress.{Stands, tookProgress, Follows}
 use Rattle.output_lines.specs.Going.{Within, ItemWent, Stops}
 
 pub stands-lines : {table : List ℕ} {p : Progress} {s : State} → Stands table p s → s .lines ≡ p .lines
@@ -54,10 +56,7 @@ no-symbol : {A : Type 0} {s : Symbol} → NoSuch ≡ Known s → A
 no-symbol e = let z : _≡_ {A = ℕ} 0 1 = cc in absurd (omega (arith, z))
 
 low-digit : (n c : ℕ) → n ≤ maxShares → shareDigit n c ≡ true → c - 48 < maxShares
-low-digit n c h e =
-    let a = leb-true 48 c (and-left (leb 48 c) (ltb c (48 + n)) e) in
-    let b = ltb-true c (48 + n) (and-right (leb 48 c) (ltb c (48 + n)) e) in
-    omega (arith, a, b, h)
+low-digit n c h e = omega (arith, ltb-true (c - 48) n (figure-share n c e .1), h)
 
 module _ (n : ℕ) (few : n ≤ maxShares) where
   known-product : (c : ℕ) (w : List ℕ) (s : Symbol) → productRead n w ≡ Known s → (length (c ∷ w) ≡ symbolLength s) × Small s

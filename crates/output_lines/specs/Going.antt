@@ -16,13 +16,14 @@ use lib.Dec.{ltb}
 use lib.ListN.{length, getD}
 use Rattle.limits.specs.Limits.{maxShares, maxTableBytes}
 use Rattle.records.specs.Layout.{noSum}
+use Rattle.records.specs.Symbols.{Small}
 use Rattle.description.specs.Bytes.{space, lineEnd, closing}
 use Rattle.description.specs.Listing.{emptyGroup}
 use Rattle.description.specs.Run.{Around, State, start, done, refused, runAt, maxText, maxDepth}
 use Rattle.description.specs.declared.Group.{Group}
 use Rattle.description.specs.declared.Refusal.{Refusal}
 use Rattle.listing.specs.declared.Progress.{Progress}
-use Rattle.listing.specs.Progress.{Small, Stands}
+use Rattle.listing.specs.Progress.{Stands}
 use Rattle.output_lines.specs.declared.groups.Answer.{Answer}
 use Rattle.output_lines.specs.declared.groups.Answer.the-variants.{Went, Stopped}
 

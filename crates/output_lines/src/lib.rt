@@ -9,7 +9,6 @@ ghost use Rattle.description.specs.Run.{maxText};
 ghost use Rattle.output_lines.specs.Going.{Within, Sized, Ends, Skips, LineReads, LinesRead, nextLine, startProgress};
 use description::PlacedSymbol;
 use description::Refusal;
-use description::Symbol;
 use groups::Answer;
 use groups::group;
 use listing::Progress;
@@ -17,6 +16,7 @@ use listing::empty_group;
 use listing::end_line;
 use records::sums::nothing;
 use tokens::bytes::line_ends;
+use wires::Symbol;
 
 pub mod groups;
 

@@ -16,9 +16,9 @@ use mathlib.Core.Path.{_≡_, refl}
 use mathlib.Core.List.{List, [], _∷_, _++_, map}
 use lib.ListN.{replicate}
 use Rattle.basics.specs.Told.{values, refusal}
-use Rattle.records.specs.Words.{bit}
+use Rattle.records.specs.Words.{bit, bytesOf}
 use Rattle.description.specs.Header.{orderLine, masksLine, namesFrom}
-use Rattle.description.specs.Listing.{bytesOf, encode}
+use Rattle.description.specs.Listing.{encode}
 use Rattle.description.specs.Run.{run}
 use Rattle.basics.specs.Quoted.{bytes}
 use Rattle.description.proofs.Samples.{textA, textC}

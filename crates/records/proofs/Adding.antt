@@ -20,6 +20,7 @@ use borrow.Author.Tests.{ltb-true}
 use lib.Dec.{ltb}
 use lib.ListN.{length, take, drop, getD, length-map}
 use lib.Seq.{take-all}
+use Rattle.limits.specs.Limits.{recordBytes}
 use Rattle.basics.specs.Folds.{oneIf, upTo}
 use Rattle.basics.proofs.Tests.{xor-and}
 use Rattle.basics.proofs.Folds.{fold-append, fold-more, up-to-last, keep-append, every-place}
@@ -29,7 +30,7 @@ use Rattle.wires.specs.Function.{outers}
 use Rattle.wires.proofs.Value.{terms-ext, plus-none, none-plus, plus-assoc, sum-of-values}
 use Rattle.wires.proofs.Breaks.{allowed-ni}
 use Rattle.records.specs.Words.{bit, number}
-use Rattle.records.specs.Layout.{decodeTerms, field, recordAt, wireAt, wireCount, wires, inside}
+use Rattle.records.specs.Layout.{decodeTerms, field, outerAt, kindOf, recordAt, wireAt, wireCount, wires, inside}
 use Rattle.records.proofs.Words.{bit-zero, bit-xor}
 use Rattle.records.proofs.Fields.{field-at, byte-at, record-inside}
 
@@ -45,25 +46,25 @@ words-added p q k l a c b d =
     (λ i j. ap (λ (b : Bool). ltb j 8 && b) (bit-xor p q _) ∙ xor-and (ltb j 8) (bit p _) (bit q _)) (bit-xor a c)
     (bit-xor b d) (bit-xor k l)
 
-pub words-of-record : (table : List ℕ) (wire p k a b : ℕ) → wire < wireCount table → p ≡ number (take 8 (drop (24 * wire) table))
-    → k ≡ number (take 8 (drop (24 * wire + 8) table)) → a ≡ getD table (24 * wire + 16) 0 → b ≡ getD table (24 * wire + 17) 0
+pub words-of-record : (table : List ℕ) (wire p k a b : ℕ) → wire < wireCount table → p ≡ number (take 8 (drop (recordBytes * wire) table))
+    → k ≡ number (take 8 (drop (recordBytes * wire + 8) table)) → a ≡ getD table (recordBytes * wire + 16) 0 → b ≡ getD table (recordBytes * wire + 17) 0
     → decodeTerms p k a b ≡ wireAt table wire .terms
 words-of-record table wire p k a b h ep ek ea eb =
     let r = record-inside table wire h in
-    let zero : 24 * wire ≡ 24 * wire + 0 = omega arith in
+    let zero : recordBytes * wire ≡ recordBytes * wire + 0 = omega arith in
     let f : p ≡ field 0 8 (recordAt table wire) =
     ep ∙ ap (λ (x : ℕ). number (take 8 (drop x table))) zero ∙ sym (field-at table wire 0 8 (omega arith)) in
     let g : k ≡ field 8 8 (recordAt table wire) = ek ∙ sym (field-at table wire 8 8 (omega arith)) in
     let c : a ≡ field 16 1 (recordAt table wire) =
-    ea ∙ sym (byte-at table (24 * wire + 16) (omega (arith, r))) ∙ sym (field-at table wire 16 1 (omega arith)) in
+    ea ∙ sym (byte-at table (recordBytes * wire + 16) (omega (arith, r))) ∙ sym (field-at table wire 16 1 (omega arith)) in
     let d : b ≡ field 17 1 (recordAt table wire) =
-    eb ∙ sym (byte-at table (24 * wire + 17) (omega (arith, r))) ∙ sym (field-at table wire 17 1 (omega arith)) in
+    eb ∙ sym (byte-at table (recordBytes * wire + 17) (omega (arith, r))) ∙ sym (field-at table wire 17 1 (omega arith)) in
     ap₂ (λ (x y : ℕ). decodeTerms x y a b) f g
     ∙ ap₂ (λ (x y : ℕ). decodeTerms (field 0 8 (recordAt table wire)) (field 8 8 (recordAt table wire)) x y) c d
 
-pub outer-byte : (table : List ℕ) (wire : ℕ) → wire < wireCount table → getD table (24 * wire + 18) 0 ≡ field 18 1 (recordAt table wire)
+pub outer-byte : (table : List ℕ) (wire : ℕ) → wire < wireCount table → getD table (recordBytes * wire + outerAt) 0 ≡ kindOf (recordAt table wire)
 outer-byte table wire h =
-    let r = record-inside table wire h in sym (field-at table wire 18 1 (omega arith) ∙ byte-at table (24 * wire + 18) (omega (arith, r)))
+    let r = record-inside table wire h in sym (field-at table wire outerAt 1 (omega arith) ∙ byte-at table (recordBytes * wire + outerAt) (omega (arith, r)))
 
 -- ---- one wire more
 

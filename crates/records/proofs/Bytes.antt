@@ -2,7 +2,7 @@
 --     Bytes                             every number of a list is a byte
 --     number-bit                        bit 8 i + j of a little-endian number is bit j of byte i
 --     product-at, mask-at, share-a-at, share-b-at, outer-at     the terms of a record and its flag, byte by byte
---     wires-none, wires-more            the wires of a table: none, or that of the first 24 bytes and those of the rest
+--     wires-none, wires-more            the wires of a table: none, or that of the first record and those of the rest
 --     inside-none, inside-more          the empty set, and one wire more
 --     inside-exactly                    every wire of a set is one of the table's
 use Prim.Native.Nat.{ℕ, zero, suc, _+_, _-_, _*_, _/_, _%_, _<_, suc-le-suc}
@@ -16,6 +16,7 @@ use borrow.Author.Tests.{lt-ltb}
 use lib.Dec.{eqb, ltb}
 use lib.ListN.{length, take, drop, getD, length-append}
 use lib.Seq.{getD-take, getD-drop, drop-append-add, take-at}
+use Rattle.limits.specs.Limits.{maxShares, maxMasks, recordBytes}
 use Rattle.basics.specs.Folds.{every, upTo}
 use Rattle.basics.proofs.Tests.{and-both}
 use Rattle.wires.specs.Wires.{Wire}
@@ -24,7 +25,7 @@ use Rattle.records.specs.Layout.{field, decode, wireAt, wireCount, wires
 use Rattle.records.proofs.Words.{bit-zero, bit-shift, bit-low}
 use Rattle.records.proofs.Fields.{byte-at}
 use Rattle.records.proofs.Adding.{set-inside}
-use Rattle.records.proofs.Shares.{within-eight}
+use Rattle.records.proofs.Shares.{within-row}
 
 -- every number of a list is a byte
 abbrev pub Bytes : List ℕ → Type 0
@@ -58,17 +59,17 @@ field-bit at r h i j k l =
     ∙ ap (λ (x : ℕ). bit x j) (getD-take 8 (drop at r) i 0 k ∙ getD-drop at r i 0)
 
 module _ (r : List ℕ) (h : Bytes r) where
-  pub product-at : (i j : ℕ) → i < 8 → j < 8 → decode r .terms .product i j ≡ bit (getD r i 0) j
+  pub product-at : (i j : ℕ) → i < maxShares → j < maxShares → decode r .terms .product i j ≡ bit (getD r i 0) j
   product-at i j k l =
-      within-eight j (bit (field 0 8 r) (8 * i + j)) l ∙ field-bit 0 r h i j k l ∙ ap (λ (x : ℕ). bit (getD r x 0) j) (zero-add i)
+      within-row j (bit (field 0 8 r) (8 * i + j)) l ∙ field-bit 0 r h i j k l ∙ ap (λ (x : ℕ). bit (getD r x 0) j) (zero-add i)
 
-  pub mask-at : (k : ℕ) → k < 64 → decode r .terms .mask k ≡ bit (getD r (8 + k / 8) 0) (k % 8)
+  pub mask-at : (k : ℕ) → k < maxMasks → decode r .terms .mask k ≡ bit (getD r (8 + k / 8) 0) (k % 8)
   mask-at k l =
       let place : k ≡ 8 * (k / 8) + k % 8 = omega arith in
       let row : k / 8 < 8 = omega arith in
       ap (bit (field 8 8 r)) place ∙ field-bit 8 r h (k / 8) (k % 8) row (mod-lt k (zero-lt-suc 7))
 
-module _ (r : List ℕ) (whole : length r ≡ 24) where
+module _ (r : List ℕ) (whole : length r ≡ recordBytes) where
   pub share-a-at : (i : ℕ) → decode r .terms .shareA i ≡ bit (getD r 16 0) i
   share-a-at i = ap (λ (x : ℕ). bit x i) (byte-at r 16 (omega (arith, whole)))
 
@@ -82,17 +83,17 @@ pub wires-none : wires [] ≡ []
 unfolding upTo
 wires-none = refl
 
-pub wires-more : (r t : List ℕ) → length r ≡ 24 → wires (r ++ t) ≡ decode r ∷ wires t
+pub wires-more : (r t : List ℕ) → length r ≡ recordBytes → wires (r ++ t) ≡ decode r ∷ wires t
 unfolding upTo
 wires-more r t e =
-    let count : wireCount (r ++ t) ≡ suc (wireCount t) = ap (λ (n : ℕ). n / 24) (length-append r t) ∙ omega (arith, e) in
+    let count : wireCount (r ++ t) ≡ suc (wireCount t) = ap (λ (n : ℕ). n / recordBytes) (length-append r t) ∙ omega (arith, e) in
     ap (λ (n : ℕ). map (wireAt (r ++ t)) (upTo n)) count
-    ∙ ap₂ {C = List Wire} (λ w s. w ∷ s) (ap decode (take-at r t 24 e)) (rest (upTo (wireCount t)))
+    ∙ ap₂ {C = List Wire} (λ w s. w ∷ s) (ap decode (take-at r t recordBytes e)) (rest (upTo (wireCount t)))
   where
     moved : (w : ℕ) → wireAt (r ++ t) (suc w) ≡ wireAt t w
     moved w =
-        let place : 24 * suc w ≡ length r + 24 * w = omega (arith, e) in
-        ap (λ (n : ℕ). decode (take 24 (drop n (r ++ t)))) place ∙ ap (λ l. decode (take 24 l)) (drop-append-add r t (24 * w))
+        let place : recordBytes * suc w ≡ length r + recordBytes * w = omega (arith, e) in
+        ap (λ (n : ℕ). decode (take recordBytes (drop n (r ++ t)))) place ∙ ap (λ l. decode (take recordBytes l)) (drop-append-add r t (recordBytes * w))
 
     rest : (l : List ℕ) → map (wireAt (r ++ t)) (map suc l) ≡ map (wireAt t) l
     rest [] = refl

@@ -11,6 +11,7 @@ use mathlib.Core.Path.{_≡_, sym, _∙_, ap}
 use mathlib.Core.List.{List, [], _∷_}
 use lib.ListN.{length, take, drop, getD}
 use lib.Seq.{drop-cons, drop-drop, take-take, take-nil}
+use Rattle.limits.specs.Limits.{recordBytes}
 use Rattle.records.specs.Words.{number}
 use Rattle.records.specs.Layout.{field, lineOf, offsetOf, lengthOf, recordAt, wireCount}
 
@@ -57,9 +58,9 @@ eight-bytes l at a b h ea eb =
     ap (λ (k : List ℕ). number (take 4 k)) u in
     omega (arith, ea, eb, e, f)
 
-pub record-inside : (table : List ℕ) (wire : ℕ) → wire < wireCount table → 24 * wire + 24 ≤ length table
+pub record-inside : (table : List ℕ) (wire : ℕ) → wire < wireCount table → recordBytes * wire + recordBytes ≤ length table
 record-inside table wire h =
-    let m : wireCount table * 24 ≤ length table = div-mul-le-self (length table) 24 in
+    let m : wireCount table * recordBytes ≤ length table = div-mul-le-self (length table) recordBytes in
     omega (arith, m, h)
 
 drop-take : (a k n : ℕ) (l : List ℕ) → a + k ≡ n → drop a (take n l) ≡ take k (drop a l)
@@ -68,21 +69,21 @@ drop-take (suc a) k zero l e = let z : ⊥ = omega (arith, e) in absurd z
 drop-take (suc a) k (suc n) [] e = sym (take-nil k)
 drop-take (suc a) k (suc n) (x ∷ l) e = drop-take a k n l (omega (arith, e))
 
--- within a record's 24 bytes
-pub field-at : (table : List ℕ) (wire at size : ℕ) → at + size ≤ 24
-    → field at size (recordAt table wire) ≡ number (take size (drop (24 * wire + at) table))
+-- within a record's bytes
+pub field-at : (table : List ℕ) (wire at size : ℕ) → at + size ≤ recordBytes
+    → field at size (recordAt table wire) ≡ number (take size (drop (recordBytes * wire + at) table))
 field-at table wire at size h =
     ap number
-    (ap (take size) (drop-take at (24 - at) 24 (drop (24 * wire) table) (omega arith))
-    ∙ take-take size (24 - at) (drop at (drop (24 * wire) table)) (omega arith)
-    ∙ ap (take size) (drop-drop at (24 * wire) table))
+    (ap (take size) (drop-take at (recordBytes - at) recordBytes (drop (recordBytes * wire) table) (omega arith))
+    ∙ take-take size (recordBytes - at) (drop at (drop (recordBytes * wire) table)) (omega arith)
+    ∙ ap (take size) (drop-drop at (recordBytes * wire) table))
 
-pub place-fields : (table : List ℕ) (wire x y z : ℕ) → wire < wireCount table → x ≡ getD table (24 * wire + 19) 0
-    → y ≡ number (take 2 (drop (24 * wire + 20) table)) → z ≡ number (take 2 (drop (24 * wire + 22) table))
+pub place-fields : (table : List ℕ) (wire x y z : ℕ) → wire < wireCount table → x ≡ getD table (recordBytes * wire + 19) 0
+    → y ≡ number (take 2 (drop (recordBytes * wire + 20) table)) → z ≡ number (take 2 (drop (recordBytes * wire + 22) table))
     → (x ≡ lineOf (recordAt table wire)) × (y ≡ offsetOf (recordAt table wire)) × (z ≡ lengthOf (recordAt table wire))
 place-fields table wire x y z h ex ey ez =
     let r = record-inside table wire h in (
-      ex ∙ sym (byte-at table (24 * wire + 19) (omega (arith, r))) ∙ sym (field-at table wire 19 1 (omega arith)),
+      ex ∙ sym (byte-at table (recordBytes * wire + 19) (omega (arith, r))) ∙ sym (field-at table wire 19 1 (omega arith)),
       ey ∙ sym (field-at table wire 20 2 (omega arith)),
       ez ∙ sym (field-at table wire 22 2 (omega arith)),
     )

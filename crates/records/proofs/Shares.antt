@@ -2,7 +2,7 @@
 --     or-double, gather-bits         a word united with itself shifted, three times: eight bits a stride apart
 --     marks                          of the eight bits 7 apart from place i on, the i-th alone stands at a multiple of 8
 --     rows-bits, columns-bits        the rows and the columns that have a product
---     within-eight, row-products, column-products     the products of a record, by row and by column
+--     within-row, row-products, column-products     the products of a record, by row and by column
 --     seen-bits, seen-ones           the shares on which a sum depends, and their number
 use Prim.Native.Nat.{ℕ, _+_, _*_, _/_, _%_, _^_, _<_}
 use native.Mathlib.Nat.{mul-add, mul-comm}
@@ -13,6 +13,7 @@ use borrow.Author.Tests.{lt-ltb, not-true}
 use lib.Bits.{bitAnd, bitOr}
 use lib.Count.{ones}
 use lib.Dec.{eqb, ltb}
+use Rattle.limits.specs.Limits.{maxShares}
 use Rattle.basics.specs.Folds.{some, every, oneIf, upTo}
 use Rattle.basics.proofs.Tests.{xor-same, and-cond}
 use Rattle.basics.proofs.Folds.{fold-cong, fold-below, fold-pick, fold-split, every-at}
@@ -56,7 +57,7 @@ marks i s h l =
 
 pub rows-bits : (p g h : ℕ) → ((k : ℕ) → bit g k ≡ some (λ j. bit p (1 * j + k)) (upTo 8))
     → ((k : ℕ) → bit h k ≡ some (λ s. bit (bitAnd g 0x0101010101010101) (7 * s + k)) (upTo 8))
-    → (i : ℕ) → i < 8 → bit (h % 256) i ≡ some (λ j. bit p (8 * i + j)) (upTo 8)
+    → (i : ℕ) → i < maxShares → bit (h % 256) i ≡ some (λ j. bit p (8 * i + j)) (upTo maxShares)
 rows-bits p g h eg eh i l =
     bit-low h 8 i l ∙ eh i
     ∙ fold-below _||_ false 8 (λ s. bit (bitAnd g 0x0101010101010101) (7 * s + i)) (λ s. cond (eqb s i) (bit g (7 * s + i)) false)
@@ -67,26 +68,26 @@ rows-bits p g h eg eh i l =
     ∙ fold-cong _||_ false (λ j. bit p (1 * j + (7 * i + i))) (λ j. bit p (8 * i + j)) (upTo 8)
     (λ j. let e : 1 * j + (7 * i + i) ≡ 8 * i + j = omega arith in ap (bit p) e)
 
-pub columns-bits : (p g : ℕ) → ((k : ℕ) → bit g k ≡ some (λ i. bit p (8 * i + k)) (upTo 8)) → (j : ℕ) → j < 8
-    → bit (g % 256) j ≡ some (λ i. bit p (8 * i + j)) (upTo 8)
+pub columns-bits : (p g : ℕ) → ((k : ℕ) → bit g k ≡ some (λ i. bit p (8 * i + k)) (upTo 8)) → (j : ℕ) → j < maxShares
+    → bit (g % 256) j ≡ some (λ i. bit p (8 * i + j)) (upTo maxShares)
 columns-bits p g eg j l = bit-low g 8 j l ∙ eg j
 
--- a product's column is one of the eight
-pub within-eight : (j : ℕ) (b : Bool) → j < 8 → (ltb j 8 && b) ≡ b
-within-eight j b h = ap (λ (c : Bool). c && b) (lt-ltb j 8 h)
+-- a product's column is one of a row's
+pub within-row : (j : ℕ) (b : Bool) → j < 8 → (ltb j 8 && b) ≡ b
+within-row j b h = ap (λ (c : Bool). c && b) (lt-ltb j 8 h)
 
-pub row-products : (p m a b i : ℕ) → some (λ j. bit p (8 * i + j)) (upTo 8) ≡ some (decodeTerms p m a b .product i) (upTo 8)
+pub row-products : (p m a b i : ℕ) → some (λ j. bit p (8 * i + j)) (upTo maxShares) ≡ some (decodeTerms p m a b .product i) (upTo maxShares)
 row-products p m a b i =
-    sym (fold-below _||_ false 8 (λ j. ltb j 8 && bit p (8 * i + j)) (λ j. bit p (8 * i + j)) (λ j h. within-eight j (bit p (8 * i + j)) h))
+    sym (fold-below _||_ false maxShares (λ j. ltb j 8 && bit p (8 * i + j)) (λ j. bit p (8 * i + j)) (λ j h. within-row j (bit p (8 * i + j)) h))
 
-pub column-products : (p m a b j : ℕ) → j < 8 → some (λ i. bit p (8 * i + j)) (upTo 8) ≡ some (λ i. decodeTerms p m a b .product i j) (upTo 8)
+pub column-products : (p m a b j : ℕ) → j < maxShares → some (λ i. bit p (8 * i + j)) (upTo maxShares) ≡ some (λ i. decodeTerms p m a b .product i j) (upTo maxShares)
 column-products p m a b j h =
-    sym (fold-cong _||_ false (λ i. ltb j 8 && bit p (8 * i + j)) (λ i. bit p (8 * i + j)) (upTo 8) (λ i. within-eight j (bit p (8 * i + j)) h))
+    sym (fold-cong _||_ false (λ i. ltb j 8 && bit p (8 * i + j)) (λ i. bit p (8 * i + j)) (upTo maxShares) (λ i. within-row j (bit p (8 * i + j)) h))
 
-pub seen-bits : (t : Terms) (w v b i : ℕ) → bit w i ≡ some (t .product i) (upTo 8) → v ≡ b → bit b i ≡ t .shareA i
-    → bit (bitOr w v) i ≡ dependsA 8 t i
+pub seen-bits : (t : Terms) (w v b i : ℕ) → bit w i ≡ some (t .product i) (upTo maxShares) → v ≡ b → bit b i ≡ t .shareA i
+    → bit (bitOr w v) i ≡ dependsA maxShares t i
 seen-bits t w v b i ew ev eb = bit-or w v i ∙ ap₂ (λ (x y : Bool). x || y) ew (ap (λ (x : ℕ). bit x i) ev ∙ eb)
 
-pub seen-ones : (t : Terms) (w : ℕ) → w < 256 → ((i : ℕ) → i < 8 → bit w i ≡ dependsA 8 t i) → ones w ≡ countA 8 t
+pub seen-ones : (t : Terms) (w : ℕ) → w < 2 ^ maxShares → ((i : ℕ) → i < maxShares → bit w i ≡ dependsA maxShares t i) → ones w ≡ countA maxShares t
 unfolding countA
-seen-ones t w h e = ones-count 8 w h ∙ fold-below _+_ 0 8 (λ i. oneIf (bit w i)) (λ i. oneIf (dependsA 8 t i)) (λ i l. ap oneIf (e i l))
+seen-ones t w h e = ones-count maxShares w h ∙ fold-below _+_ 0 maxShares (λ i. oneIf (bit w i)) (λ i. oneIf (dependsA maxShares t i)) (λ i l. ap oneIf (e i l))

@@ -7,20 +7,22 @@
 --     zero-test, none-from             the tests that a word is 0, that it has no bit from s on
 --     ones-count                       the ones of a word are the bits that are set
 --     or-fold                          a word united with itself shifted
+--     bit-power                        a power of two has one bit
+--     words-assoc                      words added without carry, in any grouping
 use Prim.Native.Nat.{ℕ, zero, suc, _+_, _-_, _*_, _/_, _%_, _^_, _≤_, _<_, suc-le-suc, zero-le}
-use native.Mathlib.Nat.{zero-lt-suc, mod-lt, div-add-mod', le-of-suc-le-suc, lt-of-lt-of-le, div-one, div-eq-of-lt, lt-of-le-of-lt}
+use native.Mathlib.Nat.{zero-lt-suc, pow-suc, mod-lt, div-add-mod', le-of-suc-le-suc, lt-of-lt-of-le, div-one, div-eq-of-lt, lt-of-le-of-lt}
 use native.Mathlib.Omega.{arith}
 use native.Mathlib.Decide.{decLt}
 use mathlib.Core.Path.{_≡_, refl, sym, _∙_, ap, ap₂, subst}
 use mathlib.Core.Bool.{Bool, true, false, not, _&&_, _||_, xor, true≢false, false≢true, and-true}
 use borrow.Author.Tests.{eq-eqb, eqb-true, le-leb, leb-true}
 use lib.Arith.{lt-one}
-use lib.Bits.{bitAnd, bitOr, bitXor, and-shr, or-shr, xor-shr, and-mod, or-mod, xor-mod}
+use lib.Bits.{bitAnd, bitOr, bitXor, and-shr, or-shr, xor-shr, and-mod, or-mod, xor-mod, xor-lt}
 use lib.Count.{ones, ones-step, ones-ones}
-use lib.Dec.{eqb, leb}
+use lib.Dec.{eqb, leb, eqb·zero-suc, eqb·suc-zero, eqb·suc-suc}
 use lib.Pow.{shr-shr, shr-lt, shr-le, pow-mono, field, mod-mod-pow}
 use Rattle.basics.specs.Folds.{some, count, oneIf, upTo}
-use Rattle.basics.proofs.Tests.{bool-ext, and-left, and-right, and-both}
+use Rattle.basics.proofs.Tests.{bool-ext, and-left, and-right, and-both, xor-assoc}
 use Rattle.basics.proofs.Folds.{fold-first, fold-cong, some-at, some-where}
 use Rattle.records.specs.Words.{bit}
 
@@ -167,3 +169,32 @@ zero-test d w h =
     ∙ ap not
     (fold-cong _||_ false (λ k. bit w k && leb 0 k) (bit w) (upTo d)
     (λ k. ap (λ (b : Bool). bit w k && b) (le-leb 0 k zero-le) ∙ and-true (bit w k)))
+
+-- ---- single bits, and sums of three words
+
+pub bit-power : (k i : ℕ) → bit (2 ^ k) i ≡ eqb i k
+unfolding bit
+bit-power zero zero = refl
+bit-power zero (suc i) = bit-next 1 i ∙ bit-zero i ∙ sym (eqb·suc-zero i)
+bit-power (suc k) zero =
+    let even : 2 ^ suc k % 2 ≡ 0 = omega arith in
+    bit-first (2 ^ suc k) ∙ ap (λ (x : ℕ). eqb x 1) even ∙ sym (eqb·zero-suc k)
+bit-power (suc k) (suc i) =
+    let half : 2 ^ suc k / 2 ≡ 2 ^ k = omega arith in
+    bit-next (2 ^ suc k) i ∙ ap (λ (x : ℕ). bit x i) half ∙ bit-power k i ∙ sym (eqb·suc-suc i k)
+
+below-power : (n : ℕ) → n < 2 ^ n
+below-power zero = zero-lt-suc 0
+below-power (suc n) = let double = pow-suc 2 n in let h = below-power n in omega (arith, double, h)
+
+pub words-assoc : (a b c : ℕ) → bitXor (bitXor a b) c ≡ bitXor a (bitXor b c)
+words-assoc a b c =
+    let d : ℕ = a + b + c in
+    let fits : (n : ℕ) → n ≤ d → n < 2 ^ d = λ n h. lt-of-lt-of-le (below-power n) (pow-mono h) in
+    let x = fits a (omega arith) in
+    let y = fits b (omega arith) in
+    let z = fits c (omega arith) in
+    bits-ext d (bitXor (bitXor a b) c) (bitXor a (bitXor b c)) (xor-lt d (bitXor a b) c (xor-lt d a b x y) z)
+    (xor-lt d a (bitXor b c) x (xor-lt d b c y z))
+    (λ k h. bit-xor (bitXor a b) c k ∙ ap (λ (v : Bool). xor v (bit c k)) (bit-xor a b k) ∙ xor-assoc (bit a k) (bit b k) (bit c k)
+    ∙ sym (bit-xor a (bitXor b c) k ∙ ap (xor (bit a k)) (bit-xor b c k)))

@@ -1,9 +1,9 @@
 -- How a wire stands in a table (scope, "Wires"): records of 24 bytes with no header, numbers little-endian. Bytes 19 to 23 (output line,
--- offset and length in the text) have no part in what a wire is.
+-- offset and length in the text) have no part in what a wire is. The places of bytes stand as numbers here and nowhere above.
 --     field at size r     the number of `size` bytes of a record, from byte `at` on
---     recordBytes         the length of a record
 --     decodeTerms         the terms of its four fields: products, masks, shares of a, shares of b
 --     decode r            the wire that a record's 24 bytes are
+--     outerAt, kindOf     the place and the byte of inner or outer
 --     lineOf, offsetOf, lengthOf     what a record says of the text
 --     recordAt, wireAt    the record of a wire of a table, and the wire
 --     wireCount, wires    how many wires a table has, and the wires in their order
@@ -16,13 +16,11 @@ use mathlib.Core.List.{List, map}
 use lib.Bits.{bitXor}
 use lib.Dec.{eqb, ltb}
 use lib.ListN.{length, take, drop}
+use Rattle.limits.specs.Limits.{recordBytes}
 use Rattle.basics.specs.Folds.{every, upTo}
 use Rattle.wires.specs.Wires.{Terms, Wire}
 use Rattle.records.specs.Words.{bit, number}
 use Rattle.records.specs.declared.sums.Sum.{Sum}
-
-abbrev pub recordBytes : ℕ
-recordBytes = 24
 
 abbrev pub field : ℕ → ℕ → List ℕ → ℕ
 field at size r = number (take size (drop at r))
@@ -33,8 +31,14 @@ decodeTerms products masks a b =
     record { product = λ i j. ltb j 8 && bit products (8 * i + j); shareA = λ i. bit a i; shareB = λ j. bit b j; mask = λ k. bit masks k }
 
 -- byte 18, 0 inner or 1 outer
+abbrev pub outerAt : ℕ
+outerAt = 18
+
+abbrev pub kindOf : List ℕ → ℕ
+kindOf = field outerAt 1
+
 abbrev pub decode : List ℕ → Wire
-decode r = record { terms = decodeTerms (field 0 8 r) (field 8 8 r) (field 16 1 r) (field 17 1 r); outer = eqb (field 18 1 r) 1 }
+decode r = record { terms = decodeTerms (field 0 8 r) (field 8 8 r) (field 16 1 r) (field 17 1 r); outer = eqb (kindOf r) 1 }
 
 -- byte 19, number of the output line from 0, 0 for inner; bytes 20 and 21, offset in the text; 22 and 23, length
 abbrev pub lineOf : List ℕ → ℕ

@@ -1,11 +1,10 @@
-// How a wire stands in a table: a record of 24 bytes, numbers little-endian (scope, "Wires").
+// How a wire stands in a table: a record of RECORD_BYTES bytes, numbers little-endian (scope, "Wires").
 ghost use mathlib.Core.Path.{_≡_};
 ghost use Prim.Native.Nat.{_≤_, _<_, _+_, _^_};
 ghost use lib.ListN.{take, drop};
 ghost use Rattle.records.specs.Words.{number};
 ghost use Rattle.records.specs.Layout.{wireCount, recordAt, lineOf, offsetOf, lengthOf};
-
-pub const RECORD_BYTES: usize = 24;
+use limits::RECORD_BYTES;
 
 // The products stand first.
 pub const MASKS_AT: usize = 8;

@@ -3,7 +3,8 @@
 ghost use mathlib.Core.Path.{_≡_};
 ghost use mathlib.Core.Bool.{true};
 ghost use mathlib.Core.List.{map};
-ghost use Prim.Native.Nat.{ℕ, _≤_, _<_, _+_, _*_};
+ghost use Prim.Native.Nat.{ℕ, _≤_, _<_, _+_, _*_, _^_};
+ghost use Rattle.limits.specs.Limits.{maxShares, maxMasks};
 ghost use Rattle.basics.specs.Folds.{some, upTo};
 ghost use Rattle.wires.specs.Wires.{none, plus, total, SumOfValues, countA, countB, allowed, breaks, dependsA, dependsB};
 ghost use Rattle.wires.specs.Function.{outers};
@@ -11,11 +12,11 @@ ghost use Rattle.records.specs.Words.{bit};
 ghost use Rattle.records.specs.Layout.{wireAt, wireCount, wires, inside, termsOf, noSum, plusSum};
 use super::layout::MASKS_AT;
 use super::layout::OUTER_AT;
-use super::layout::RECORD_BYTES;
 use super::layout::SHARES_A_AT;
 use super::layout::SHARES_B_AT;
 use super::layout::wide;
 use super::layout::word;
+use limits::RECORD_BYTES;
 use wires::Notion;
 
 // Records added bit by bit without carry: what stands in their first 18 bytes.
@@ -130,7 +131,7 @@ fn gather(word: u64, stride: usize) -> u64
 
 // Bit i is set where row i of the products, which is byte i, is not 0. The rows' lowest bits are 8 apart; 7 brings them side by side.
 fn rows(products: u64) -> u64
-    ensures { λ r. ⌜ (r < 256) × ((i : ℕ) → i < 8 → bit r i ≡ some (λ j. bit products (8 * i + j)) (upTo 8)) ⌝ }
+    ensures { λ r. ⌜ (r < 2 ^ maxShares) × ((i : ℕ) → i < maxShares → bit r i ≡ some (λ j. bit products (8 * i + j)) (upTo maxShares)) ⌝ }
 {
     let lowest = gather(products, 1) & 0x0101_0101_0101_0101;
     gather(lowest, 7) % 256
@@ -138,15 +139,15 @@ fn rows(products: u64) -> u64
 
 // Bit j is set where column j of the products, bit j of some byte, is not 0.
 fn columns(products: u64) -> u64
-    ensures { λ r. ⌜ (r < 256) × ((j : ℕ) → j < 8 → bit r j ≡ some (λ i. bit products (8 * i + j)) (upTo 8)) ⌝ }
+    ensures { λ r. ⌜ (r < 2 ^ maxShares) × ((j : ℕ) → j < maxShares → bit r j ≡ some (λ i. bit products (8 * i + j)) (upTo maxShares)) ⌝ }
 {
     gather(products, 8) % 256
 }
 
 // The words of the shares on which a sum depends: a product counts for its row in a and for its column in b.
 pub fn shares_seen(sum: Sum) -> ShareWords
-    ensures { λ r. ⌜ (r .a < 256) × ((i : ℕ) → i < 8 → bit (r .a) i ≡ dependsA 8 (termsOf sum) i) ⌝ }
-    ensures { λ r. ⌜ (r .b < 256) × ((j : ℕ) → j < 8 → bit (r .b) j ≡ dependsB 8 (termsOf sum) j) ⌝ }
+    ensures { λ r. ⌜ (r .a < 2 ^ maxShares) × ((i : ℕ) → i < maxShares → bit (r .a) i ≡ dependsA maxShares (termsOf sum) i) ⌝ }
+    ensures { λ r. ⌜ (r .b < 2 ^ maxShares) × ((j : ℕ) → j < maxShares → bit (r .b) j ≡ dependsB maxShares (termsOf sum) j) ⌝ }
 {
     ShareWords {
         a: rows(sum.products) | wide(sum.shares_a),
@@ -156,7 +157,7 @@ pub fn shares_seen(sum: Sum) -> ShareWords
 
 // On how many shares of a, and on how many of b, a sum depends.
 pub fn dependence(sum: Sum) -> ShareCounts
-    ensures { λ r. ⌜ (r .«of_a» ≡ countA 8 (termsOf sum)) × (r .«of_b» ≡ countB 8 (termsOf sum)) ⌝ }
+    ensures { λ r. ⌜ (r .«of_a» ≡ countA maxShares (termsOf sum)) × (r .«of_b» ≡ countB maxShares (termsOf sum)) ⌝ }
 {
     let words = shares_seen(sum);
     ShareCounts {
@@ -196,7 +197,7 @@ fn payers(table: &[u8], notion: Notion, set: &[u16]) -> usize
 // and still pays.
 pub fn set_breaks(table: &[u8], notion: Notion, set: &[u16]) -> bool
     requires { ⌜ inside (now table) (now set) ≡ true ⌝ }
-    ensures { λ r. ⌜ r ≡ breaks notion 8 64 (map (wireAt (now (table .entry))) (now (set .entry))) ⌝ }
+    ensures { λ r. ⌜ r ≡ breaks notion maxShares maxMasks (map (wireAt (now (table .entry))) (now (set .entry))) ⌝ }
 {
     let sum = sum_of_set(table, set);
     if sum.masks != 0 {

@@ -23,6 +23,7 @@ use mathlib.Core.List.{List, [], _∷_, map}
 use borrow.Author.Tests.{le-leb, lt-leb, ltb-false, le-ltb, lt-ltb, ltb-true, eq-eqb, eqb-true, not-false}
 use lib.ListN.{length}
 use lib.Dec.{ltb, leb, eqb}
+use Rattle.limits.specs.Limits.{minShares, maxShares, maxMasks, recordBytes, maxTableBytes}
 use Rattle.basics.specs.Folds.{some, every, keep, oneIf, upTo}
 use Rattle.basics.specs.Told.{Told, Lent, values, refusal, turnedDown}
 use Rattle.basics.proofs.Tests.{and-left, and-right, or-none, bool-ext}
@@ -34,8 +35,8 @@ use Rattle.wires.specs.Function.{functionTerms, outers, blank, computes}
 use Rattle.wires.proofs.Dependence.{blank-bits, bits-blank}
 use Rattle.wires.proofs.Function.{computes-exactly}
 use Rattle.wires.proofs.Narrow.{Within, AllWithin, within, not-beyond, within-plus, within-total, breaks-narrow, blank-narrow}
-use Rattle.records.specs.Layout.{field, recordAt, wireAt, wireCount, wires, inside}
-use Rattle.table.specs.Cut.{FirstShares}
+use Rattle.records.specs.Layout.{kindOf, recordAt, wireAt, wireCount, wires, inside}
+use Rattle.records.specs.Cut.{FirstShares}
 use Rattle.table.specs.declared.Refusal.{Refusal}
 use Rattle.table.specs.declared.Refusal.the-variants.{NoSuchFunction}
 use Rattle.table.specs.declared.FunctionAnswer.{FunctionAnswer}
@@ -65,13 +66,13 @@ module _ (table : List ℕ) (shares masks : ℕ) where
   accepted e = tested-passed refusal (λ t. t) (λ k. refl) (values []) [] (sym e) .0
 
   -- the records alone decide where the numbers and the length are right
-  pub records-decide : (b : Bool) → 2 ≤ shares → shares ≤ 8 → masks ≤ 64 → length table % 24 ≡ 0 → length table ≤ 12288
+  pub records-decide : (b : Bool) → minShares ≤ shares → shares ≤ maxShares → masks ≤ maxMasks → length table % recordBytes ≡ 0 → length table ≤ maxTableBytes
       → not b ≡ not (some (λ w. wrongRecord shares masks (recordAt table w)) (upTo (wireCount table)))
       → cond b (refusal 13) (values []) ≡ tableCheck table shares masks
   records-decide b low high few whole short e =
       let found = some (λ w. wrongRecord shares masks (recordAt table w)) (upTo (wireCount table)) in
       let first : tableCheck table shares masks ≡ cond found (refusal 13) (values []) =
-      simp (le-ltb shares 2 low, le-ltb 8 shares high, le-ltb 64 masks few, eq-eqb (length table % 24) 0 whole, le-ltb 12288 (length table) short) in
+      simp (le-ltb shares minShares low, le-ltb maxShares shares high, le-ltb maxMasks masks few, eq-eqb (length table % recordBytes) 0 whole, le-ltb maxTableBytes (length table) short) in
       sym (first ∙ ap (λ (z : Bool). cond z (refusal 13) (values [])) (sym (same-not b found e)))
     where
       same-not : (x y : Bool) → not x ≡ not y → x ≡ y
@@ -108,39 +109,39 @@ module _ (table : List ℕ) (shares masks : ℕ) where
 
 -- shares 2 to 8, masks up to 64; a multiple of 24 bytes, up to 12,288; in every record no bit beyond shares and masks, and byte 18 at most 1
 pub record Sound (table : List ℕ) (shares masks : ℕ) : Type 0 where
-  pub low : 2 ≤ shares
-  pub high : shares ≤ 8
-  pub few : masks ≤ 64
-  pub whole : length table % 24 ≡ 0
-  pub short : length table ≤ 12288
-  pub bits : (w : ℕ) → w < wireCount table → Within 8 64 shares masks (wireAt table w .terms)
-  pub flag : (w : ℕ) → w < wireCount table → field 18 1 (recordAt table w) ≤ 1
+  pub low : minShares ≤ shares
+  pub high : shares ≤ maxShares
+  pub few : masks ≤ maxMasks
+  pub whole : length table % recordBytes ≡ 0
+  pub short : length table ≤ maxTableBytes
+  pub bits : (w : ℕ) → w < wireCount table → Within maxShares maxMasks shares masks (wireAt table w .terms)
+  pub flag : (w : ℕ) → w < wireCount table → kindOf (recordAt table w) ≤ 1
 
 -- ---- no bit beyond
 
 module _ (table : List ℕ) (shares masks : ℕ) (h : Accepted table shares masks) where
-  parts : (ltb shares 2 ≡ false) × (ltb 8 shares ≡ false) × (ltb 64 masks ≡ false)
+  parts : (ltb shares minShares ≡ false) × (ltb maxShares shares ≡ false) × (ltb maxMasks masks ≡ false)
   parts =
-      let a = or-none (ltb shares 2 || ltb 8 shares) (ltb 64 masks) (h .goodShares) in
-      let b = or-none (ltb shares 2) (ltb 8 shares) (a .0) in
+      let a = or-none (ltb shares minShares || ltb maxShares shares) (ltb maxMasks masks) (h .goodShares) in
+      let b = or-none (ltb shares minShares) (ltb maxShares shares) (a .0) in
       (b .0, b .1, a .1)
 
-  pub shares-low : 2 ≤ shares
-  shares-low = ltb-false shares 2 (parts .0)
+  pub shares-low : minShares ≤ shares
+  shares-low = ltb-false shares minShares (parts .0)
 
-  pub shares-high : shares ≤ 8
-  shares-high = ltb-false 8 shares (parts .1)
+  pub shares-high : shares ≤ maxShares
+  shares-high = ltb-false maxShares shares (parts .1)
 
-  pub masks-high : masks ≤ 64
-  masks-high = ltb-false 64 masks (parts .2)
+  pub masks-high : masks ≤ maxMasks
+  masks-high = ltb-false maxMasks masks (parts .2)
 
-  pub wire-within : (w : ℕ) → w < wireCount table → Within 8 64 shares masks (wireAt table w .terms)
+  pub wire-within : (w : ℕ) → w < wireCount table → Within maxShares maxMasks shares masks (wireAt table w .terms)
   wire-within w l =
       let sound = never (wireCount table) w (λ w. wrongRecord shares masks (recordAt table w)) (h .goodRecords) l in
-      within 8 64 shares masks (wireAt table w .terms)
-      (or-none (beyond 8 64 shares masks (wireAt table w .terms)) (ltb 1 (field 18 1 (recordAt table w))) sound .0)
+      within maxShares maxMasks shares masks (wireAt table w .terms)
+      (or-none (beyond maxShares maxMasks shares masks (wireAt table w .terms)) (ltb 1 (kindOf (recordAt table w))) sound .0)
 
-  all-within : (set : List ℕ) → every (λ w. ltb w (wireCount table)) set ≡ true → AllWithin 8 64 shares masks (map (wireAt table) set)
+  all-within : (set : List ℕ) → every (λ w. ltb w (wireCount table)) set ≡ true → AllWithin maxShares maxMasks shares masks (map (wireAt table) set)
   all-within [] e = tt
   all-within (w ∷ set) e =
       let rest = every (λ w. ltb w (wireCount table)) set in (
@@ -149,17 +150,17 @@ module _ (table : List ℕ) (shares masks : ℕ) (h : Accepted table shares mask
             (and-right (ltb w (wireCount table)) rest e),
       )
 
-  pub set-within : (set : List ℕ) → inside table set ≡ true → AllWithin 8 64 shares masks (map (wireAt table) set)
+  pub set-within : (set : List ℕ) → inside table set ≡ true → AllWithin maxShares maxMasks shares masks (map (wireAt table) set)
   unfolding inside
   set-within set e = all-within set e
 
-  pub table-within : AllWithin 8 64 shares masks (wires table)
+  pub table-within : AllWithin maxShares maxMasks shares masks (wires table)
   table-within =
       all-within (upTo (wireCount table)) (every-below (wireCount table) (λ w. ltb w (wireCount table)) (λ w l. lt-ltb w (wireCount table) l))
 
   pub set-decided : (notion : Notion) (set : List ℕ) → inside table set ≡ true
-      → breaks notion 8 64 (map (wireAt table) set) ≡ breaks notion shares masks (map (wireAt table) set)
-  set-decided notion set e = breaks-narrow 8 64 shares masks shares-high masks-high notion (map (wireAt table) set) (set-within set e)
+      → breaks notion maxShares maxMasks (map (wireAt table) set) ≡ breaks notion shares masks (map (wireAt table) set)
+  set-decided notion set e = breaks-narrow maxShares maxMasks shares masks shares-high masks-high notion (map (wireAt table) set) (set-within set e)
 
 -- the tests let through exactly what is sound
 pub accepted-exactly : (table : List ℕ) (shares masks : ℕ) → (values [] ≡ tableCheck table shares masks) ↔ Sound table shares masks
@@ -171,24 +172,24 @@ accepted-exactly table shares masks = (there, back)
     there : values [] ≡ tableCheck table shares masks → Sound table shares masks
     there e =
         let h = accepted table shares masks e in
-        let lengths = or-none (not (eqb (length table % 24) 0)) (ltb 12288 (length table)) (h .goodLength) in
+        let lengths = or-none (not (eqb (length table % recordBytes) 0)) (ltb maxTableBytes (length table)) (h .goodLength) in
         record {
           low = shares-low table shares masks h;
           high = shares-high table shares masks h;
           few = masks-high table shares masks h;
-          whole = eqb-true (length table % 24) 0 (not-false (eqb (length table % 24) 0) (lengths .0));
-          short = ltb-false 12288 (length table) (lengths .1);
+          whole = eqb-true (length table % recordBytes) 0 (not-false (eqb (length table % recordBytes) 0) (lengths .0));
+          short = ltb-false maxTableBytes (length table) (lengths .1);
           bits = wire-within table shares masks h;
-          flag = λ w l. ltb-false 1 (field 18 1 (recordAt table w))
-              (or-none (beyond 8 64 shares masks (wireAt table w .terms)) (ltb 1 (field 18 1 (recordAt table w)))
+          flag = λ w l. ltb-false 1 (kindOf (recordAt table w))
+              (or-none (beyond maxShares maxMasks shares masks (wireAt table w .terms)) (ltb 1 (kindOf (recordAt table w)))
               (never (wireCount table) w wrong (h .goodRecords) l) .1);
         }
 
     none-wrong : Sound table shares masks → some wrong (upTo (wireCount table)) ≡ false
     none-wrong h =
         none-below (wireCount table) wrong
-        (λ w l. ap₂ (λ (x y : Bool). x || y) (not-beyond 8 64 shares masks (wireAt table w .terms) (h .bits w l))
-        (le-ltb 1 (field 18 1 (recordAt table w)) (h .flag w l)))
+        (λ w l. ap₂ (λ (x y : Bool). x || y) (not-beyond maxShares maxMasks shares masks (wireAt table w .terms) (h .bits w l))
+        (le-ltb 1 (kindOf (recordAt table w)) (h .flag w l)))
 
     back : Sound table shares masks → values [] ≡ tableCheck table shares masks
     back h = records-decide table shares masks false (h .low) (h .high) (h .few) (h .whole) (h .short) (sym (ap not (none-wrong h)))
@@ -221,8 +222,8 @@ blank-same n m t u p a b k =
     bool-ext (blank n m t) (blank n m u) (carried n m t u p a b k)
     (carried n m u t (λ i j c d. sym (p i j c d)) (λ i c. sym (a i c)) (λ j c. sym (b j c)) (λ i c. sym (k i c)))
 
-module _ (n m : ℕ) (small : n ≤ 8) (few : m ≤ 64) (t u : Terms) (first : FirstShares n t u) (clear : (k : ℕ) → t .mask k ≡ false) where
-  cut-within : Within 8 64 n m u
+module _ (n m : ℕ) (small : n ≤ maxShares) (few : m ≤ maxMasks) (t u : Terms) (first : FirstShares n t u) (clear : (k : ℕ) → t .mask k ≡ false) where
+  cut-within : Within maxShares maxMasks n m u
   cut-within = record {
     noProduct = λ i j c d h. first .products i j c d ∙ ap (λ (z : Bool). t .product i j && z) (late i j h) ∙ and-false (t .product i j);
     noA = λ i c h. first .ofA i c ∙ ap (λ (z : Bool). t .shareA i && z) (le-ltb i n h) ∙ and-false (t .shareA i);
@@ -245,17 +246,17 @@ module _ (n m : ℕ) (small : n ≤ 8) (few : m ≤ 64) (t u : Terms) (first : F
 
 pub function-decided : (table : List ℕ) (shares masks function : ℕ) (u : Terms) → Accepted table shares masks
     → FirstShares shares (functionTerms function) u
-    → blank 8 64 (plus (total (outers (wires table))) u) ≡ computes function shares masks (wires table)
+    → blank maxShares maxMasks (plus (total (outers (wires table))) u) ≡ computes function shares masks (wires table)
 unfolding computes
 function-decided table shares masks function u h first =
     let sum = total (outers (wires table)) in
     let small = shares-high table shares masks h in
     let few = masks-high table shares masks h in
     let sum-within =
-    within-total 8 64 shares masks (outers (wires table))
-    (keep-within 8 64 shares masks (λ w. w .outer) (wires table) (table-within table shares masks h)) in
-    blank-narrow 8 64 shares masks small few (plus sum u)
-    (within-plus 8 64 shares masks sum u sum-within (cut-within shares masks small few (functionTerms function) u first (λ k. refl)))
+    within-total maxShares maxMasks shares masks (outers (wires table))
+    (keep-within maxShares maxMasks shares masks (λ w. w .outer) (wires table) (table-within table shares masks h)) in
+    blank-narrow maxShares maxMasks shares masks small few (plus sum u)
+    (within-plus maxShares maxMasks shares masks sum u sum-within (cut-within shares masks small few (functionTerms function) u first (λ k. refl)))
     ∙ cut-same shares masks small few (functionTerms function) u first (λ k. refl) sum
 
 -- what a yes or a no says of the test
@@ -312,10 +313,10 @@ module _ (table : List ℕ) (shares masks function : ℕ) where
     function-high l h = promised (FunctionAnswer.Refused NoSuchFunction) (sym (own ∙ simp (le-leb 1 function l, lt-leb function 3 h)))
 
     pub answered : (answer : FunctionAnswer) (x y : Bool) (s t u : Terms) → functionTold answer ≡ values (oneIf y ∷ []) → 1 ≤ function → function ≤ 3
-        → s ≡ total (outers (wires table)) → FirstShares shares (functionTerms function) t → u ≡ plus s t → x ≡ blank 8 64 u → x ≡ y
+        → s ≡ total (outers (wires table)) → FirstShares shares (functionTerms function) t → u ≡ plus s t → x ≡ blank maxShares maxMasks u → x ≡ y
         → Promise answer table shares masks function
     answered answer x y s t u told l h es ft eu ex e =
         let c : y ≡ computes function shares masks (wires table) =
-        sym e ∙ ex ∙ ap (blank 8 64) (eu ∙ ap (λ (v : Terms). plus v t) es)
+        sym e ∙ ex ∙ ap (blank maxShares maxMasks) (eu ∙ ap (λ (v : Terms). plus v t) es)
         ∙ function-decided table shares masks function t (accepted table shares masks ok) ft in
         promised answer (told ∙ sym (own ∙ simp (le-leb 1 function l, le-leb function 3 h, c)))

@@ -1,9 +1,7 @@
 -- The lemmas behind `table`, and what the tests of a table give to the operations that come after them.
 --     Records    the test of a record
---     Named      the functions' records, and the test that no bit of a sum is set
 --     Entries    what the tests give to later operations, and what the function check tells
 --     Examples   the scope's texts A, B and C as tables, both sides of every limit
 pub mod Records
-pub mod Named
 pub mod Entries
 pub mod Examples

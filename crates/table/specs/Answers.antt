@@ -1,8 +1,7 @@
 -- Each answer of `table` in the scope's own numbers, and what each entry answers (scope, "What each operation turns down").
 --     refusalNumber                 the scope's number of each refusal
 --     tableTold, functionTold       what each answer of the code tells
---     minShares, maxShares, maxMasks, maxTableBytes     the limits
---     wrongShares, wrongLength, wrongRecord             the three tests of a table
+--     wrongShares, wrongLength, wrongRecord     the three tests of a table
 --     tested                        the three tests, then what the operation itself answers
 --     tableCheck, functionCheck     what each entry is to tell
 --     FunctionMeans                 what yes and no say of the values of the outer wires
@@ -12,11 +11,12 @@ use mathlib.Core.Bool.{Bool, cond, not, _&&_, _||_}
 use mathlib.Core.List.{List, [], _∷_}
 use lib.Dec.{ltb, leb, eqb}
 use lib.ListN.{length}
+use Rattle.limits.specs.Limits.{minShares, maxShares, maxMasks, recordBytes, maxTableBytes}
 use Rattle.basics.specs.Folds.{some, oneIf, upTo}
 use Rattle.basics.specs.Told.{Told, values, refusal}
 use Rattle.wires.specs.Wires.{beyond}
 use Rattle.wires.specs.Function.{AddUpTo, computes}
-use Rattle.records.specs.Layout.{recordBytes, field, decode, recordAt, wireCount, wires}
+use Rattle.records.specs.Layout.{decode, kindOf, recordAt, wireCount, wires}
 use Rattle.table.specs.declared.Refusal.{Refusal}
 use Rattle.table.specs.declared.Refusal.the-variants.{SharesOrMasks, TableLength, RecordOutOfRange, NoSuchFunction}
 use Rattle.table.specs.declared.TableAnswer.{TableAnswer}
@@ -38,18 +38,6 @@ functionTold FunctionAnswer.Yes = values (1 ∷ [])
 functionTold FunctionAnswer.No = values (0 ∷ [])
 functionTold (FunctionAnswer.Refused why) = refusal (refusalNumber why)
 
-abbrev pub minShares : ℕ
-minShares = 2
-
-abbrev pub maxShares : ℕ
-maxShares = 8
-
-abbrev pub maxMasks : ℕ
-maxMasks = 64
-
-abbrev pub maxTableBytes : ℕ
-maxTableBytes = 12288
-
 -- 11, shares not 2 to 8 or masks over 64
 abbrev pub wrongShares : ℕ → ℕ → Bool
 wrongShares shares masks = ltb shares minShares || ltb maxShares shares || ltb maxMasks masks
@@ -60,7 +48,7 @@ wrongLength table = not (eqb (length table % recordBytes) 0) || ltb maxTableByte
 
 -- 13, a record with a bit beyond shares or masks, or byte 18 over 1
 abbrev pub wrongRecord : ℕ → ℕ → List ℕ → Bool
-wrongRecord shares masks r = beyond maxShares maxMasks shares masks (decode r .terms) || ltb 1 (field 18 1 r)
+wrongRecord shares masks r = beyond maxShares maxMasks shares masks (decode r .terms) || ltb 1 (kindOf r)
 
 -- every operation on a table first makes these tests, in this order
 abbrev pub tested : {A : Type 0} → (ℕ → A) → List ℕ → ℕ → ℕ → A → A

@@ -1,5 +1,3 @@
 -- The definitions that the promises of `table` cite.
 --     Answers   each answer in the numbers of the scope, and what each entry answers
---     Cut       terms cut to the first shares of each operand
 pub mod Answers
-pub mod Cut

@@ -4,19 +4,15 @@
 ghost use mathlib.Core.Path.{_≡_};
 ghost use Prim.Native.Nat.{_<_};
 ghost use Rattle.table.specs.Answers.{refusalNumber, tableTold, tableCheck, functionTold, functionCheck, FunctionMeans};
-use records::layout::RECORD_BYTES;
+use limits::MAX_MASKS;
+use limits::MAX_SHARES;
+use limits::MAX_TABLE_BYTES;
+use limits::MIN_SHARES;
+use limits::RECORD_BYTES;
+use records::functions;
 use records::sums;
 
-mod functions;
 mod tests;
-
-pub const MIN_SHARES: usize = 2;
-
-pub const MAX_SHARES: usize = 8;
-
-pub const MAX_MASKS: usize = 64;
-
-pub const MAX_TABLE_BYTES: usize = 12288;
 
 // Why an entry turns its arguments down.
 pub enum Refusal {

@@ -1,5 +1,5 @@
 -- The two header lines, by what the tests on them say.
---     order-word, order-short, order-low, order-high, order-tail      a wrong first line: other bytes, no digit, one below 1, one above 7,
+--     order-word, order-short, order-low, order-high, order-tail      a wrong first line: other bytes, no digit, one below 1, one above the highest order,
 --                                                                     more after it
 --     order-is                                                        the order of the first line
 --     masks-word                                                      a wrong second line: other bytes
@@ -10,10 +10,11 @@ use mathlib.Core.Path.{_≡_, refl, sym, _∙_, ap}
 use mathlib.Core.Bool.{Bool, true, false, cond, and-true}
 use mathlib.Core.List.{List, [], _∷_}
 use borrow.Author.Tests.{lt-leb, le-leb}
-use lib.Dec.{eqb}
+use lib.Dec.{eqb, leb}
 use lib.ListN.{length, take, drop, getD, drop-of-length-le}
 use lib.Seq.{drop-drop}
-use Rattle.description.specs.Bytes.{orderWord, masksWord, ended, same}
+use Rattle.limits.specs.Limits.{maxOrder}
+use Rattle.description.specs.Bytes.{orderWord, masksWord, figure, ended, same}
 use Rattle.description.specs.Header.{orderDigit, orderLine, closed, namesFrom, bracketHere, masksLine}
 use Rattle.description.specs.declared.OrderLine.{OrderLine}
 use Rattle.description.specs.declared.MasksLine.{MasksLine}
@@ -37,19 +38,23 @@ module _ (text : List ℕ) where
       digit-there : orderLine text ≡ orderDigit (getD text 8 0 ∷ drop 9 text)
       digit-there = then-digit ∙ ap orderDigit (drop-byte text 8 inside)
 
-      pub order-low : getD text 8 0 < 49 → orderLine text ≡ OrderLine.Wrong
-      order-low h = digit-there ∙ simp (lt-leb 49 (getD text 8 0) h)
+      pub order-low : getD text 8 0 < figure 1 → orderLine text ≡ OrderLine.Wrong
+      order-low h = digit-there ∙ simp (lt-leb (figure 1) (getD text 8 0) h)
 
-      module _ (low : 49 ≤ getD text 8 0) where
-        pub order-high : 55 < getD text 8 0 → orderLine text ≡ OrderLine.Wrong
-        order-high h = digit-there ∙ simp (le-leb 49 (getD text 8 0) low, lt-leb (getD text 8 0) 55 h)
+      module _ (low : figure 1 ≤ getD text 8 0) (v : ℕ) (w : v ≡ getD text 8 0 - 48) where
+        pub order-high : maxOrder < v → orderLine text ≡ OrderLine.Wrong
+        order-high h =
+            digit-there ∙ simp (le-leb (figure 1) (getD text 8 0) low, lt-leb (getD text 8 0) (figure maxOrder) (omega (arith, low, w, h)))
 
-        module _ (high : getD text 8 0 ≤ 55) where
+        module _ (high : v ≤ maxOrder) where
+          most : leb (getD text 8 0) (figure maxOrder) ≡ true
+          most = le-leb (getD text 8 0) (figure maxOrder) (omega (arith, low, w, high))
+
           pub order-tail : ended (drop 9 text) ≡ false → orderLine text ≡ OrderLine.Wrong
-          order-tail t = digit-there ∙ simp (le-leb 49 (getD text 8 0) low, le-leb (getD text 8 0) 55 high, t)
+          order-tail t = digit-there ∙ simp (le-leb (figure 1) (getD text 8 0) low, most, t)
 
-          pub order-is : ended (drop 9 text) ≡ true → (v : ℕ) → v ≡ getD text 8 0 - 48 → orderLine text ≡ OrderLine.Order v
-          order-is t v w = digit-there ∙ simp (le-leb 49 (getD text 8 0) low, le-leb (getD text 8 0) 55 high, t, w)
+          pub order-is : ended (drop 9 text) ≡ true → orderLine text ≡ OrderLine.Order v
+          order-is t = digit-there ∙ simp (le-leb (figure 1) (getD text 8 0) low, most, t, w)
 
 -- ---- the second line
 

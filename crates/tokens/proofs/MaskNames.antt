@@ -5,7 +5,7 @@
 --     Both                             an r and two digits
 --     leading-zero, too-high           no name: a 0 before another digit, a number above 63
 --     two-digits                       a number of two digits
---     Within, name-within              a name's number is below 64, and its bytes are there
+--     Within, name-within              a name's number is one of a mask, and its bytes are there
 --     not-whole                        bytes after a name: no symbol
 --     is-declared, not-declared        a name and nothing after it, of a declared mask, of one that is not
 use Prim.Native.Nat.{ℕ, _+_, _*_, _-_, _/_, _%_, _^_, _≤_, _<_}
@@ -16,12 +16,13 @@ use mathlib.Core.List.{List, [], _∷_}
 use borrow.Author.Tests.{eq-eqb, ne-eqb, lt-ltb, le-ltb, leb-true, ltb-false}
 use lib.Dec.{eqb, ltb, leb}
 use lib.ListN.{length, drop, getD, drop-of-length-le}
+use Rattle.limits.specs.Limits.{maxMasks}
 use Rattle.basics.proofs.Tests.{and-right, or-none}
 use Rattle.records.specs.Words.{bit}
 use Rattle.description.specs.Bytes.{digit}
-use Rattle.description.specs.Symbols.{maskNumber, maskAt, nameLength, namedRead}
+use Rattle.description.specs.Symbols.{maxMask, maskNumber, maskAt, nameLength, namedRead}
 use Rattle.description.specs.declared.MaskName.the-variants.{Number, NoName}
-use Rattle.description.specs.declared.Symbol.the-variants.{Mask}
+use Rattle.wires.specs.declared.Symbol.the-variants.{Mask}
 use Rattle.description.specs.declared.SymbolAnswer.the-variants.{Known, NoSuch, NotDeclared}
 use Rattle.description.proofs.Running.{drop-byte}
 
@@ -71,18 +72,18 @@ module _ (l : List ℕ) (b : Both l) where
   leading-zero z = at-second l (b .begun) (b .there) ∙ simp (b .second, eq-eqb (getD l 1 0) 48 z)
 
   module _ (z : getD l 1 0 ≡ 48 → ⊥) (m n : ℕ) (v : m ≡ getD l 1 0 - 48) (w : n ≡ getD l 2 0 - 48) where
-    pub too-high : 63 < 10 * m + n → maskAt l ≡ NoName
+    pub too-high : maxMask < 10 * m + n → maskAt l ≡ NoName
     too-high h =
-        at-second l (b .begun) (b .there) ∙ simp (b .second, ne-eqb (getD l 1 0) 48 z, ← v, ← w, lt-ltb 63 (10 * m + n) h)
+        at-second l (b .begun) (b .there) ∙ simp (b .second, ne-eqb (getD l 1 0) 48 z, ← v, ← w, lt-ltb maxMask (10 * m + n) h)
 
-    pub two-digits : 10 * m + n ≤ 63 → maskAt l ≡ Number (10 * m + n)
+    pub two-digits : 10 * m + n ≤ maxMask → maskAt l ≡ Number (10 * m + n)
     two-digits h =
-        at-second l (b .begun) (b .there) ∙ simp (b .second, ne-eqb (getD l 1 0) 48 z, ← v, ← w, le-ltb 63 (10 * m + n) h)
+        at-second l (b .begun) (b .there) ∙ simp (b .second, ne-eqb (getD l 1 0) 48 z, ← v, ← w, le-ltb maxMask (10 * m + n) h)
 
 -- ---- what a name's number is, and how many bytes it has
 
 pub record Within (l : List ℕ) (k : ℕ) : Type 0 where
-  pub below : k < 64
+  pub below : k < maxMasks
   pub fits : nameLength k ≤ length l
 
 small : (k i : ℕ) (l : List ℕ) → 2 ≤ length l → digit i ≡ true → Number (i - 48) ≡ Number k → Within l k
@@ -108,17 +109,17 @@ name-within (c ∷ i ∷ l) k e = go (eqb c 114 && digit i) refl e
     number (j ∷ l) d e = second (digit j) refl e
       where
         second : (b : Bool) → digit j ≡ b
-            → cond b (cond (eqb i 48 || ltb 63 (10 * (i - 48) + (j - 48))) NoName (Number (10 * (i - 48) + (j - 48)))) (Number (i - 48)) ≡ Number k
+            → cond b (cond (eqb i 48 || ltb maxMask (10 * (i - 48) + (j - 48))) NoName (Number (10 * (i - 48) + (j - 48)))) (Number (i - 48)) ≡ Number k
             → Within (c ∷ i ∷ j ∷ l) k
         second false t e = small k i (c ∷ i ∷ j ∷ l) (omega arith) d e
-        second true t e = high (eqb i 48 || ltb 63 (10 * (i - 48) + (j - 48))) refl e
+        second true t e = high (eqb i 48 || ltb maxMask (10 * (i - 48) + (j - 48))) refl e
           where
-            high : (b : Bool) → (eqb i 48 || ltb 63 (10 * (i - 48) + (j - 48))) ≡ b
+            high : (b : Bool) → (eqb i 48 || ltb maxMask (10 * (i - 48) + (j - 48))) ≡ b
                 → cond b NoName (Number (10 * (i - 48) + (j - 48))) ≡ Number k → Within (c ∷ i ∷ j ∷ l) k
             high true t e = let z : _≡_ {A = ℕ} 0 1 = cc in absurd (omega (arith, z))
             high false t e =
                 let v : 10 * (i - 48) + (j - 48) ≡ k = cc in
-                let top = ltb-false 63 (10 * (i - 48) + (j - 48)) (or-none (eqb i 48) (ltb 63 (10 * (i - 48) + (j - 48))) t .1) in
+                let top = ltb-false maxMask (10 * (i - 48) + (j - 48)) (or-none (eqb i 48) (ltb maxMask (10 * (i - 48) + (j - 48))) t .1) in
                 record { below = omega arith; fits = omega (arith, longest k) }
 
     go : (b : Bool) → (eqb c 114 && digit i) ≡ b → cond b (maskNumber i l) NoName ≡ Number k → Within (c ∷ i ∷ l) k

@@ -1,34 +1,34 @@
 -- Symbols of shares: a letter and one or two digits of shares.
---     below-0, digit-below           whether a byte is the digit of a share
+--     below-0, share-written         whether a byte writes a share that there is
 --     not-three, first-wrong, second-decides     whether bytes are a letter and two digits of shares
 --     not-two, first-decides         whether they are a letter and one digit
 --     TwoDigits, product-there, OneDigit, share-there     bytes that are so: how many, and the digits
 --     is-product, no-product         what bytes with the letter s are read as
 --     is-share, no-share             what bytes with the letter a or b are
 --     is-other                       what bytes with another letter are
-use Prim.Native.Nat.{ℕ, _+_, _-_, _≤_, _<_}
+use Prim.Native.Nat.{ℕ, _≤_, _<_}
 use native.Mathlib.Omega.{arith}
 use mathlib.Core.Path.{_≡_, refl, sym, _∙_, ap}
 use mathlib.Core.Bool.{Bool, true, false, cond, _&&_, false≢true}
 use mathlib.Core.List.{List, [], _∷_}
-use borrow.Author.Tests.{ne-eqb, lt-ltb, lt-leb, le-leb, ltb-true, leb-true}
-use lib.Dec.{ltb, leb}
+use borrow.Author.Tests.{eq-eqb, ne-eqb}
+use lib.Dec.{ltb}
 use lib.ListN.{length, getD}
-use Rattle.basics.proofs.Tests.{bool-ext, and-left, and-right}
-use Rattle.description.specs.Symbols.{maskAt, shareDigit, shareRead, namedRead, symbolRead}
-use Rattle.description.specs.declared.Symbol.{Symbol}
-use Rattle.description.specs.declared.Symbol.the-variants.{Product}
+use Rattle.basics.proofs.Tests.{and-left, and-right}
+use Rattle.description.specs.Bytes.{figure}
+use Rattle.description.specs.Symbols.{shareFigure, shareOf, maskAt, shareDigit, shareRead, namedRead, symbolRead}
+use Rattle.wires.specs.declared.Symbol.{Symbol}
+use Rattle.wires.specs.declared.Symbol.the-variants.{Product}
 use Rattle.description.specs.declared.SymbolAnswer.the-variants.{Known, NoSuch}
+use Rattle.description.proofs.Spelling.{figure-share}
 use Rattle.tokens.specs.Digits.{isProduct, isShare}
 
-pub below-0 : (n c : ℕ) → c < 48 → shareDigit n c ≡ false
-below-0 n c h = simp (lt-leb 48 c h)
+pub below-0 : (n c : ℕ) → c < figure 0 → shareDigit n c ≡ false
+below-0 n c h = simp (ne-eqb (shareFigure (shareOf c)) c (λ e. omega (arith, h, e)))
 
-pub digit-below : (n c v : ℕ) → 48 ≤ c → v ≡ c - 48 → ltb v n ≡ shareDigit n c
-digit-below n c v h e =
-    bool-ext (ltb v n) (ltb c (48 + n)) (λ t. lt-ltb c (48 + n) (omega (arith, ltb-true v n t)))
-    (λ t. lt-ltb v n (omega (arith, ltb-true c (48 + n) t)))
-    ∙ sym (ap (λ (b : Bool). b && ltb c (48 + n)) (le-leb 48 c h))
+pub share-written : (n c v : ℕ) → shareFigure (shareOf c) ≡ c → v ≡ shareOf c → ltb v n ≡ shareDigit n c
+share-written n c v w e =
+    ap (λ (x : ℕ). ltb x n) e ∙ sym (ap (λ (b : Bool). b && ltb (shareOf c) n) (eq-eqb (shareFigure (shareOf c)) c w))
 
 pub not-three : (n : ℕ) (l : List ℕ) → (length l ≡ 3 → ⊥) → isProduct n l ≡ false
 not-three n [] h = refl
@@ -63,13 +63,13 @@ first-decides n (c ∷ []) h = absurd (omega (arith, h))
 first-decides n (c ∷ i ∷ []) h = refl
 first-decides n (c ∷ i ∷ j ∷ l) h = absurd (omega (arith, h))
 
-from-48 : (n c : ℕ) → shareDigit n c ≡ true → 48 ≤ c
-from-48 n c e = leb-true 48 c (and-left (leb 48 c) (ltb c (48 + n)) e)
+written : (n c : ℕ) → shareDigit n c ≡ true → shareFigure (shareOf c) ≡ c
+written n c e = figure-share n c e .0
 
 pub record TwoDigits (l : List ℕ) : Type 0 where
   pub size : length l ≡ 3
-  pub first : 48 ≤ getD l 1 0
-  pub second : 48 ≤ getD l 2 0
+  pub first : shareFigure (shareOf (getD l 1 0)) ≡ getD l 1 0
+  pub second : shareFigure (shareOf (getD l 2 0)) ≡ getD l 2 0
 
 pub product-there : (n : ℕ) (l : List ℕ) → isProduct n l ≡ true → TwoDigits l
 product-there n [] e = absurd (false≢true e)
@@ -77,25 +77,25 @@ product-there n (c ∷ []) e = absurd (false≢true e)
 product-there n (c ∷ i ∷ []) e = absurd (false≢true e)
 product-there n (c ∷ i ∷ j ∷ []) e = record {
   size = refl;
-  first = from-48 n i (and-left (shareDigit n i) (shareDigit n j) e);
-  second = from-48 n j (and-right (shareDigit n i) (shareDigit n j) e);
+  first = written n i (and-left (shareDigit n i) (shareDigit n j) e);
+  second = written n j (and-right (shareDigit n i) (shareDigit n j) e);
 }
 product-there n (c ∷ i ∷ j ∷ k ∷ l) e = absurd (false≢true e)
 
 pub record OneDigit (l : List ℕ) : Type 0 where
   pub size : length l ≡ 2
-  pub first : 48 ≤ getD l 1 0
+  pub first : shareFigure (shareOf (getD l 1 0)) ≡ getD l 1 0
 
 pub share-there : (n : ℕ) (l : List ℕ) → isShare n l ≡ true → OneDigit l
 share-there n [] e = absurd (false≢true e)
 share-there n (c ∷ []) e = absurd (false≢true e)
-share-there n (c ∷ i ∷ []) e = record { size = refl; first = from-48 n i e }
+share-there n (c ∷ i ∷ []) e = record { size = refl; first = written n i e }
 share-there n (c ∷ i ∷ j ∷ l) e = absurd (false≢true e)
 
 -- ---- what bytes are read as, by their letter
 
 read-product : (n d : ℕ) (l : List ℕ) → getD l 0 0 ≡ 115
-    → symbolRead n d l ≡ cond (isProduct n l) (Known (Product (getD l 1 0 - 48) (getD l 2 0 - 48))) NoSuch
+    → symbolRead n d l ≡ cond (isProduct n l) (Known (Product (shareOf (getD l 1 0)) (shareOf (getD l 2 0)))) NoSuch
 read-product n d [] e = refl
 read-product n d (c ∷ []) e = simp e
 read-product n d (c ∷ i ∷ []) e = simp e
@@ -103,7 +103,7 @@ read-product n d (c ∷ i ∷ j ∷ []) e = simp e
 read-product n d (c ∷ i ∷ j ∷ k ∷ l) e = simp e
 
 module _ (n d : ℕ) (l : List ℕ) (e : getD l 0 0 ≡ 115) where
-  pub is-product : isProduct n l ≡ true → (i j : ℕ) → i ≡ getD l 1 0 - 48 → j ≡ getD l 2 0 - 48 → symbolRead n d l ≡ Known (Product i j)
+  pub is-product : isProduct n l ≡ true → (i j : ℕ) → i ≡ shareOf (getD l 1 0) → j ≡ shareOf (getD l 2 0) → symbolRead n d l ≡ Known (Product i j)
   is-product t i j v w = read-product n d l e ∙ simp (t, v, w)
 
   pub no-product : isProduct n l ≡ false → symbolRead n d l ≡ NoSuch
@@ -112,13 +112,13 @@ module _ (n d : ℕ) (l : List ℕ) (e : getD l 0 0 ≡ 115) where
 -- a letter after which a share is read
 module _ (n d letter : ℕ) (share : ℕ → Symbol) (reads : (w : List ℕ) → symbolRead n d (letter ∷ w) ≡ shareRead share n w) where
   read-share : (l : List ℕ) → 1 ≤ length l → getD l 0 0 ≡ letter
-      → symbolRead n d l ≡ cond (isShare n l) (Known (share (getD l 1 0 - 48))) NoSuch
+      → symbolRead n d l ≡ cond (isShare n l) (Known (share (shareOf (getD l 1 0)))) NoSuch
   read-share [] h e = absurd (omega (arith, h))
   read-share (c ∷ []) h e = ap (λ (k : ℕ). symbolRead n d (k ∷ [])) e ∙ reads []
   read-share (c ∷ i ∷ []) h e = ap (λ (k : ℕ). symbolRead n d (k ∷ i ∷ [])) e ∙ reads (i ∷ [])
   read-share (c ∷ i ∷ j ∷ l) h e = ap (λ (k : ℕ). symbolRead n d (k ∷ i ∷ j ∷ l)) e ∙ reads (i ∷ j ∷ l)
 
-  pub is-share : (l : List ℕ) → 1 ≤ length l → getD l 0 0 ≡ letter → isShare n l ≡ true → (i : ℕ) → i ≡ getD l 1 0 - 48
+  pub is-share : (l : List ℕ) → 1 ≤ length l → getD l 0 0 ≡ letter → isShare n l ≡ true → (i : ℕ) → i ≡ shareOf (getD l 1 0)
       → symbolRead n d l ≡ Known (share i)
   is-share l h e t i v = read-share l h e ∙ simp (t, v)
 

@@ -11,9 +11,10 @@ use description::MaskName;
 use description::Masks;
 use description::MasksLine;
 use description::OrderLine;
+use limits::MAX_ORDER;
 use listing::symbols::name_length;
 
-// The first line: exactly `ORDER = ` and one digit 1 to 7.
+// The first line: exactly `ORDER = ` and one digit from 1 to MAX_ORDER.
 pub fn order_line(text: &[u8]) -> OrderLine
     ensures { λ r. ⌜ r ≡ orderLine (now (text .entry)) ⌝ }
 {
@@ -27,13 +28,14 @@ pub fn order_line(text: &[u8]) -> OrderLine
     if digit < b'1' {
         return OrderLine::Wrong;
     }
-    if b'7' < digit {
+    let order = digit_value(digit);
+    if MAX_ORDER < order {
         return OrderLine::Wrong;
     }
     if !line_ends(text, 9) {
         return OrderLine::Wrong;
     }
-    OrderLine::Order(digit_value(digit))
+    OrderLine::Order(order)
 }
 
 // The closing bracket at a place, and the line's end after it.

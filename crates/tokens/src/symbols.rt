@@ -1,19 +1,19 @@
 // Symbols as they are read.
 ghost use mathlib.Core.Path.{_≡_};
-ghost use mathlib.Core.Bool.{true};
-ghost use Prim.Native.Nat.{_≤_, _<_, _+_};
+ghost use Prim.Native.Nat.{_≤_};
 ghost use lib.ListN.{length};
-ghost use Rattle.description.specs.Symbols.{maskAt, shareDigit, namedRead, symbolRead};
+ghost use Rattle.description.specs.Symbols.{maskAt, shareFigure, shareOf, shareDigit, namedRead, symbolRead};
 ghost use Rattle.tokens.specs.Digits.{isProduct, isShare};
 use super::bytes::digit_value;
 use super::bytes::is_digit;
 use description::MaskName;
-use description::Symbol;
 use description::SymbolAnswer;
+use limits::MAX_MASKS;
 use listing::symbols::name_length;
+use wires::Symbol;
 
 // The highest number of a mask.
-pub const MAX_MASK: usize = 63;
+const MAX_MASK: usize = MAX_MASKS - 1;
 
 // The mask whose name these bytes begin with: r and a number 0 to 63 without leading zeros.
 pub fn mask_name(bytes: &[u8]) -> MaskName
@@ -46,15 +46,22 @@ pub fn mask_name(bytes: &[u8]) -> MaskName
     MaskName::Number(number)
 }
 
-// Whether a byte is the digit of a share.
+// The share that a byte writes.
+fn share_number(c: u8) -> usize
+    requires { ⌜ shareFigure (shareOf c) ≡ c ⌝ }
+    ensures { λ r. ⌜ r ≡ shareOf c ⌝ }
+{
+    digit_value(c)
+}
+
+// Whether a byte writes a share that there is.
 fn is_share_digit(c: u8, shares: usize) -> bool
     ensures { λ r. ⌜ r ≡ shareDigit shares c ⌝ }
-    ensures { λ r. ⌜ (r ≡ true → (48 ≤ c) × (c < 48 + shares)) ⌝ }
 {
     if c < b'0' {
         return false;
     }
-    digit_value(c) < shares
+    share_number(c) < shares
 }
 
 // Whether a letter and two digits of shares stand here.
@@ -107,19 +114,22 @@ pub fn symbol_of(word: &[u8], shares: usize, declared: u64) -> SymbolAnswer
     let letter = word[0];
     if letter == b's' {
         if is_product(word, shares) {
-            return SymbolAnswer::Known(Symbol::Product(digit_value(word[1]), digit_value(word[2])));
+            return SymbolAnswer::Known(Symbol::Product(
+                share_number(word[1]),
+                share_number(word[2]),
+            ));
         }
         return SymbolAnswer::NoSuch;
     }
     if letter == b'a' {
         if is_share(word, shares) {
-            return SymbolAnswer::Known(Symbol::ShareA(digit_value(word[1])));
+            return SymbolAnswer::Known(Symbol::ShareA(share_number(word[1])));
         }
         return SymbolAnswer::NoSuch;
     }
     if letter == b'b' {
         if is_share(word, shares) {
-            return SymbolAnswer::Known(Symbol::ShareB(digit_value(word[1])));
+            return SymbolAnswer::Known(Symbol::ShareB(share_number(word[1])));
         }
         return SymbolAnswer::NoSuch;
     }

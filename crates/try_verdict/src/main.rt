@@ -13,7 +13,7 @@ use verdict::RangeAnswer;
 use verdict::Refusal;
 use verdict::VerdictAnswer;
 
-mod limits;
+mod edges;
 
 const STDIN: i32 = 0;
 
@@ -38,7 +38,7 @@ fn main() {
     let mut cases = [0u8; INPUT_BYTES];
     let end = io::read_full(STDIN, &mut cases);
     each(&cases[0..end]);
-    limits::all();
+    edges::all();
 }
 
 // One case after the other.

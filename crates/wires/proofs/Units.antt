@@ -2,14 +2,19 @@
 --     justProduct, justShare, justMask            the terms that name one product, one share of a, one mask
 --     value-of-product, value-of-share, value-of-mask     their values: the product of the two shares, the share, the mask
 --     value-of-share-b                            a share of b
+--     symbolTerms                                 the terms that name one symbol alone
+--     named-alone, alone-named                    of all symbols they name that one
 use Prim.Native.Nat.{ℕ, _<_}
-use mathlib.Core.Path.{_≡_, _∙_, ap, ap₂}
-use mathlib.Core.Bool.{Bool, true, false, _&&_, xor, and-comm}
+use mathlib.Core.Path.{_≡_, refl, _∙_, ap, ap₂}
+use mathlib.Core.Bool.{Bool, true, false, _&&_, xor, false≢true, and-comm}
+use borrow.Author.Tests.{eqb-true, eq-eqb}
 use lib.Dec.{eqb}
 use Rattle.basics.specs.Folds.{parity, upTo}
-use Rattle.basics.proofs.Tests.{xor-false, false-xor}
+use Rattle.basics.proofs.Tests.{xor-false, false-xor, and-left, and-right, and-both}
 use Rattle.basics.proofs.Folds.{fold-cong}
-use Rattle.wires.specs.Wires.{Terms, Input, value, swap, swapInput}
+use Rattle.wires.specs.declared.Symbol.{Symbol}
+use Rattle.wires.specs.declared.Symbol.the-variants.{Product, ShareA, ShareB, Mask}
+use Rattle.wires.specs.Wires.{Terms, names, Input, value, swap, swapInput}
 use Rattle.wires.proofs.Value.{nothing, no-products, value-swap}
 use Rattle.wires.proofs.Dependence.{parity-one}
 
@@ -58,3 +63,36 @@ module _ (n m : ℕ) (x : Input) (r : ℕ → Bool) where
 
 pub value-of-share-b : (n m : ℕ) (x : Input) (r : ℕ → Bool) (j : ℕ) → j < n → value n m x r (swap (justShare j)) ≡ x .ofB j
 value-of-share-b n m x r j h = value-swap n m (swapInput x) r (justShare j) ∙ value-of-share n m (swapInput x) r j h
+
+-- ---- symbols
+
+abbrev pub symbolTerms : Symbol → Terms
+symbolTerms (Product i j) = justProduct i j
+symbolTerms (ShareA i) = justShare i
+symbolTerms (ShareB j) = swap (justShare j)
+symbolTerms (Mask k) = justMask k
+
+pub named-alone : (s u : Symbol) → names (symbolTerms u) s ≡ true → s ≡ u
+named-alone (Product i j) (Product k l) e =
+    ap₂ {C = Symbol} (λ x y. Product x y) (eqb-true i k (and-left (eqb i k) (eqb j l) e)) (eqb-true j l (and-right (eqb i k) (eqb j l) e))
+named-alone (ShareA i) (ShareA k) e = ap {B = Symbol} (λ x. ShareA x) (eqb-true i k e)
+named-alone (ShareB j) (ShareB l) e = ap {B = Symbol} (λ x. ShareB x) (eqb-true j l e)
+named-alone (Mask i) (Mask k) e = ap {B = Symbol} (λ x. Mask x) (eqb-true i k e)
+named-alone (Product i j) (ShareA k) e = absurd (false≢true e)
+named-alone (Product i j) (ShareB l) e = absurd (false≢true e)
+named-alone (Product i j) (Mask k) e = absurd (false≢true e)
+named-alone (ShareA i) (Product k l) e = absurd (false≢true e)
+named-alone (ShareA i) (ShareB l) e = absurd (false≢true e)
+named-alone (ShareA i) (Mask k) e = absurd (false≢true e)
+named-alone (ShareB j) (Product k l) e = absurd (false≢true e)
+named-alone (ShareB j) (ShareA k) e = absurd (false≢true e)
+named-alone (ShareB j) (Mask k) e = absurd (false≢true e)
+named-alone (Mask i) (Product k l) e = absurd (false≢true e)
+named-alone (Mask i) (ShareA k) e = absurd (false≢true e)
+named-alone (Mask i) (ShareB l) e = absurd (false≢true e)
+
+pub alone-named : (s : Symbol) → names (symbolTerms s) s ≡ true
+alone-named (Product i j) = and-both (eqb i i) (eqb j j) (eq-eqb i i refl) (eq-eqb j j refl)
+alone-named (ShareA i) = eq-eqb i i refl
+alone-named (ShareB j) = eq-eqb j j refl
+alone-named (Mask k) = eq-eqb k k refl

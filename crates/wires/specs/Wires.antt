@@ -1,6 +1,7 @@
 -- What a wire computes, and which sets of wires break a notion (scope, "What a watcher sees" and "Breaking sets"), for any number of
 -- shares and masks. A wire is what the field calls a probe, an inner one an internal and an outer one an output probe; a breaking set is an attack set.
 --     Terms                    the products, shares and masks that a record names
+--     names t s                whether terms name a symbol
 --     Wire                     these terms, and whether the wire is an outer one
 --     Input                    a bit for each share of a and of b
 --     value n m x r t          the value of terms under input x and mask setting r, for n shares and m masks
@@ -22,12 +23,20 @@ use lib.Dec.{ltb, leb, eqb}
 use Rattle.basics.specs.Folds.{fold, parity, some, count, upTo}
 use Rattle.wires.specs.declared.Notion.{Notion}
 use Rattle.wires.specs.declared.Notion.the-variants.{Ni, Sni}
+use Rattle.wires.specs.declared.Symbol.{Symbol}
+use Rattle.wires.specs.declared.Symbol.the-variants.{Product, ShareA, ShareB, Mask}
 
 pub record Terms : Type 0 where
   pub product : ℕ → ℕ → Bool
   pub shareA : ℕ → Bool
   pub shareB : ℕ → Bool
   pub mask : ℕ → Bool
+
+abbrev pub names : Terms → Symbol → Bool
+names t (Product i j) = t .product i j
+names t (ShareA i) = t .shareA i
+names t (ShareB j) = t .shareB j
+names t (Mask k) = t .mask k
 
 pub record Wire : Type 0 where
   pub terms : Terms

@@ -6,3 +6,11 @@ pub enum Notion {
     Ni,
     Sni,
 }
+
+// What a symbol of a description names: the product of share i of a and share j of b, share i of a, share j of b, mask k.
+pub enum Symbol {
+    Product(usize, usize),
+    ShareA(usize),
+    ShareB(usize),
+    Mask(usize),
+}

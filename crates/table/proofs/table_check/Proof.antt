@@ -7,42 +7,43 @@ use mathlib.Core.Bool.{true, false}
 use borrow.Author.Tests.{lt-ltb, le-ltb, eq-eqb, ne-eqb, not-true, not-false}
 use borrow.Author.Needs.{needs}
 use lib.ListN.{length}
+use Rattle.limits.specs.Limits.{minShares, maxShares, maxMasks, recordBytes, maxTableBytes}
 use Rattle.table.proofs.Entries.{records-decide}
 use Rattle.table.proofs.table_check.Statement.{statement}
 use Rattle.table.proofs.table_check.Tie as tie
 
 returns : tie.Need-returns
-returns c = let a = c .before .before .args in simp (lt-ltb (a .shares) 2 (omega arith))
+returns c = let a = c .before .before .args in simp (lt-ltb (a .shares) minShares (omega arith))
 
 returns-2 : tie.Need-returns-2
-returns-2 c = let a = c .before .before .before .args in simp (le-ltb (a .shares) 2 (omega arith), lt-ltb 8 (a .shares) (omega arith))
+returns-2 c = let a = c .before .before .before .args in simp (le-ltb (a .shares) minShares (omega arith), lt-ltb maxShares (a .shares) (omega arith))
 
 returns-3 : tie.Need-returns-3
 returns-3 c =
     let a = c .before .before .before .before .args in
-    simp (le-ltb (a .shares) 2 (omega arith), le-ltb 8 (a .shares) (omega arith), lt-ltb 64 (a .masks) (omega arith))
+    simp (le-ltb (a .shares) minShares (omega arith), le-ltb maxShares (a .shares) (omega arith), lt-ltb maxMasks (a .masks) (omega arith))
 
 returns-4 : tie.Need-returns-4
 returns-4 c =
     let a = c .before .before .before .before .before .args in
     simp (
-      le-ltb (a .shares) 2 (omega arith),
-      le-ltb 8 (a .shares) (omega arith),
-      le-ltb 64 (a .masks) (omega arith),
+      le-ltb (a .shares) minShares (omega arith),
+      le-ltb maxShares (a .shares) (omega arith),
+      le-ltb maxMasks (a .masks) (omega arith),
       ne-eqb
-          (length (a .table .now) % 24) 0 (c .if4 .taken),
+          (length (a .table .now) % recordBytes) 0 (c .if4 .taken),
     )
 
 returns-5 : tie.Need-returns-5
 returns-5 c =
     let a = c .before .before .before .before .before .before .args in
     simp (
-      le-ltb (a .shares) 2 (omega arith),
-      le-ltb 8 (a .shares) (omega arith),
-      le-ltb 64 (a .masks) (omega arith),
+      le-ltb (a .shares) minShares (omega arith),
+      le-ltb maxShares (a .shares) (omega arith),
+      le-ltb maxMasks (a .masks) (omega arith),
       eq-eqb
-          (length (a .table .now) % 24) 0 (omega arith),
-      lt-ltb 12288 (length (a .table .now)) (omega arith),
+          (length (a .table .now) % recordBytes) 0 (omega arith),
+      lt-ltb maxTableBytes (length (a .table .now)) (omega arith),
     )
 
 records-fit-requires : tie.Need-records-fit-requires

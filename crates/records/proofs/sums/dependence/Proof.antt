@@ -3,6 +3,7 @@
 use native.Mathlib.Omega.{arith}
 use borrow.Author.Needs.{needs}
 use lib.Count.{ones-le}
+use Rattle.limits.specs.Limits.{maxShares}
 use Rattle.wires.specs.Wires.{swap}
 use Rattle.records.specs.Layout.{termsOf}
 use Rattle.records.proofs.Shares.{seen-ones}
@@ -13,10 +14,10 @@ shares-seen-requires : tie.Need-shares-seen-requires
 shares-seen-requires c κs = search needs
 
 cast-t4 : tie.Need-cast-t4
-cast-t4 c = let few = ones-le 8 _ (c .before .shares-seen .ensures .0 .0) in omega (arith, few)
+cast-t4 c = let few = ones-le maxShares _ (c .before .shares-seen .ensures .0 .0) in omega (arith, few)
 
 cast-t6 : tie.Need-cast-t6
-cast-t6 c = let few = ones-le 8 _ (c .before .before .shares-seen .ensures .1 .0) in omega (arith, few)
+cast-t6 c = let few = ones-le maxShares _ (c .before .before .shares-seen .ensures .1 .0) in omega (arith, few)
 
 returns : tie.Need-returns
 returns c =

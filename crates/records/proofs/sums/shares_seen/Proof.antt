@@ -3,6 +3,7 @@
 use mathlib.Core.Path.{refl, _∙_}
 use borrow.Author.Needs.{needs}
 use lib.Bits.{or-lt}
+use Rattle.limits.specs.Limits.{maxShares}
 use Rattle.wires.specs.Wires.{swap}
 use Rattle.records.specs.Layout.{termsOf}
 use Rattle.records.proofs.Shares.{row-products, column-products, seen-bits}
@@ -28,8 +29,8 @@ returns c =
     let a = c .before .before .wide .ensures in
     let columns = c .before .columns .ensures in
     let b = c .wide2 .ensures in (
-      (or-lt 8 _ _ (rows .0) (a .1), λ i h. seen-bits (termsOf sum) _ _ _ i (rows .1 i h ∙ row-products (sum .products) (sum .masks) (sum .«shares_a») (sum .«shares_b») i) (a .0) refl),
-      (or-lt 8 _ _ (columns .0) (b .1), λ j h. seen-bits (swap (termsOf sum)) _ _ _ j (columns .1 j h ∙ column-products (sum .products) (sum .masks) (sum .«shares_a») (sum .«shares_b») j h) (b .0) refl),
+      (or-lt maxShares _ _ (rows .0) (a .1), λ i h. seen-bits (termsOf sum) _ _ _ i (rows .1 i h ∙ row-products (sum .products) (sum .masks) (sum .«shares_a») (sum .«shares_b») i) (a .0) refl),
+      (or-lt maxShares _ _ (columns .0) (b .1), λ j h. seen-bits (swap (termsOf sum)) _ _ _ j (columns .1 j h ∙ column-products (sum .products) (sum .masks) (sum .«shares_a») (sum .«shares_b») j h) (b .0) refl),
     )
 
 pub shares-seen-spec : {M : Type 1} → statement M

@@ -36,31 +36,35 @@ shared-slice-read-digit c = search needs
 returns-3 : tie.Need-returns-3
 returns-3 c = let p = c .before .before .before in sym (order-low (text p) (word-stands p) (c .before .before .if2 .left) (c .if3 .taken))
 
+digit-value-requires : tie.Need-digit-value-requires
+digit-value-requires c κs = search needs
+
 returns-4 : tie.Need-returns-4
 returns-4 c =
-    let p = c .before .before .before .before in
-    sym (order-high (text p) (word-stands p) (c .before .before .before .if2 .left) (c .before .if3 .left) (c .if4 .taken))
+    let d = c .before in
+    let p = d .before .before .before .before in
+    sym
+    (order-high (text p) (word-stands p) (d .before .before .before .if2 .left) (d .before .if3 .left) _ (d .digit-value .ensures .0)
+    (c .if4 .taken))
 
 line-ends-requires : tie.Need-line-ends-requires
 line-ends-requires c κs = search needs
 
 returns-5 : tie.Need-returns-5
 returns-5 c =
-    let p = c .before .before .before .before .before .before in
+    let d = c .before .before .before in
+    let p = d .before .before .before .before in
     sym
-    (order-tail (text p) (word-stands p) (c .before .before .before .before .before .if2 .left) (c .before .before .before .if3 .left)
+    (order-tail (text p) (word-stands p) (d .before .before .before .if2 .left) (d .before .if3 .left) _ (d .digit-value .ensures .0)
     (c .before .before .if4 .left) (sym (c .before .line-ends .ensures) ∙ not-true _ (c .if5 .taken)))
-
-digit-value-requires : tie.Need-digit-value-requires
-digit-value-requires c κs = search needs
 
 returns-6 : tie.Need-returns-6
 returns-6 c =
-    let p = c .before .before .before .before .before .before .before in
+    let d = c .before .before .before in
+    let p = d .before .before .before .before in
     sym
-    (order-is (text p) (word-stands p) (c .before .before .before .before .before .before .if2 .left)
-    (c .before .before .before .before .if3 .left) (c .before .before .before .if4 .left)
-    (sym (c .before .before .line-ends .ensures) ∙ not-false _ (c .before .if5 .left)) _ (c .digit-value .ensures .0))
+    (order-is (text p) (word-stands p) (d .before .before .before .if2 .left) (d .before .if3 .left) _ (d .digit-value .ensures .0)
+    (c .before .before .if4 .left) (sym (c .before .line-ends .ensures) ∙ not-false _ (c .if5 .left)))
 
 pub order-line-spec : {M : Type 1} → statement M
 order-line-spec =
@@ -72,8 +76,8 @@ order-line-spec =
     returns-2
     shared-slice-read-digit
     returns-3
+    digit-value-requires
     returns-4
     line-ends-requires
     returns-5
-    digit-value-requires
     returns-6)

@@ -21,7 +21,7 @@ returns-2 c =
     let a = c .before .before .before .before .before .args in
     sym
     (first-wrong (a .shares) (a .word .now) (c .before .before .before .if1 .left)
-    (sym (c .before .is-share-digit .ensures .0) ∙ not-true _ (c .if2 .taken)))
+    (sym (c .before .is-share-digit .ensures) ∙ not-true _ (c .if2 .taken)))
 
 shared-slice-read-is-share-digit-2 : tie.Need-shared-slice-read-is-share-digit-2
 shared-slice-read-is-share-digit-2 c = search needs
@@ -33,10 +33,10 @@ returns-3 : tie.Need-returns-3
 returns-3 c =
     let p = c .before .before in
     let a = c .before .before .before .before .before .before .before .args in
-    c .is-share-digit2 .ensures .0
+    c .is-share-digit2 .ensures
     ∙ sym
     (second-decides (a .shares) (a .word .now) (p .before .before .before .if1 .left)
-    (sym (p .before .is-share-digit .ensures .0) ∙ not-false _ (p .if2 .left)))
+    (sym (p .before .is-share-digit .ensures) ∙ not-false _ (p .if2 .left)))
 
 pub is-product-spec : {M : Type 1} → statement M
 is-product-spec =

@@ -18,7 +18,7 @@ is-share-digit-requires c κs = search needs
 returns-2 : tie.Need-returns-2
 returns-2 c =
     let a = c .before .before .before .before .args in
-    c .is-share-digit .ensures .0 ∙ sym (first-decides (a .shares) (a .word .now) (c .before .before .if1 .left))
+    c .is-share-digit .ensures ∙ sym (first-decides (a .shares) (a .word .now) (c .before .before .if1 .left))
 
 pub is-share-spec : {M : Type 1} → statement M
 is-share-spec =

@@ -3,7 +3,7 @@
 use native.Mathlib.Omega.{arith}
 use mathlib.Core.Path.{refl, sym, _∙_}
 use borrow.Author.Needs.{needs}
-use Rattle.description.specs.declared.Symbol.the-variants.{ShareA, ShareB}
+use Rattle.wires.specs.declared.Symbol.the-variants.{ShareA, ShareB}
 use Rattle.tokens.proofs.Shares.{TwoDigits, OneDigit, product-there, share-there, is-product, no-product, is-share, no-share, is-other}
 use Rattle.tokens.proofs.symbols.symbol_of.Statement.{statement}
 use Rattle.tokens.proofs.symbols.symbol_of.Tie as tie
@@ -24,17 +24,17 @@ shared-slice-read-letter c = search needs
 is-product-requires : tie.Need-is-product-requires
 is-product-requires c κs = search needs
 
-shared-slice-read-digit-value : tie.Need-shared-slice-read-digit-value
-shared-slice-read-digit-value c = omega (arith, two-digits (c .before) .size)
+shared-slice-read-share-number : tie.Need-shared-slice-read-share-number
+shared-slice-read-share-number c = omega (arith, two-digits (c .before) .size)
 
-digit-value-requires : tie.Need-digit-value-requires
-digit-value-requires c κs = two-digits (c .before) .first
+share-number-requires : tie.Need-share-number-requires
+share-number-requires c κs = two-digits (c .before) .first
 
-shared-slice-read-digit-value-2 : tie.Need-shared-slice-read-digit-value-2
-shared-slice-read-digit-value-2 c = omega (arith, two-digits (c .before .before .before) .size)
+shared-slice-read-share-number-2 : tie.Need-shared-slice-read-share-number-2
+shared-slice-read-share-number-2 c = omega (arith, two-digits (c .before .before .before) .size)
 
-digit-value-requires-2 : tie.Need-digit-value-requires-2
-digit-value-requires-2 c κs = two-digits (c .before .before .before) .second
+share-number-requires-2 : tie.Need-share-number-requires-2
+share-number-requires-2 c κs = two-digits (c .before .before .before) .second
 
 returns : tie.Need-returns
 returns c =
@@ -42,7 +42,7 @@ returns c =
     let a = p .before .before .before .before .before .args in
     sym
     (is-product (a .shares) (a .declared) (a .word .now) (p .before .before .if1 .taken) (sym (p .before .is-product .ensures) ∙ p .if2 .taken) _ _
-    (c .before .before .digit-value .ensures .0) (c .digit-value2 .ensures .0))
+    (c .before .before .share-number .ensures) (c .share-number2 .ensures))
 
 returns-2 : tie.Need-returns-2
 returns-2 c =
@@ -53,11 +53,11 @@ returns-2 c =
 is-share-requires : tie.Need-is-share-requires
 is-share-requires c κs = search needs
 
-shared-slice-read-digit-value-3 : tie.Need-shared-slice-read-digit-value-3
-shared-slice-read-digit-value-3 c = omega (arith, digit-after-a (c .before) .size)
+shared-slice-read-share-number-3 : tie.Need-shared-slice-read-share-number-3
+shared-slice-read-share-number-3 c = omega (arith, digit-after-a (c .before) .size)
 
-digit-value-requires-3 : tie.Need-digit-value-requires-3
-digit-value-requires-3 c κs = digit-after-a (c .before) .first
+share-number-requires-3 : tie.Need-share-number-requires-3
+share-number-requires-3 c κs = digit-after-a (c .before) .first
 
 returns-3 : tie.Need-returns-3
 returns-3 c =
@@ -65,7 +65,7 @@ returns-3 c =
     let a = p .before .before .before .before .before .before .args in
     sym
     (is-share (a .shares) (a .declared) 97 ShareA (λ w. refl) (a .word .now) (search needs) (p .before .before .if3 .taken)
-    (sym (p .before .is-share .ensures) ∙ p .if4 .taken) _ (c .digit-value3 .ensures .0))
+    (sym (p .before .is-share .ensures) ∙ p .if4 .taken) _ (c .share-number3 .ensures))
 
 returns-4 : tie.Need-returns-4
 returns-4 c =
@@ -77,11 +77,11 @@ returns-4 c =
 is-share-requires-2 : tie.Need-is-share-requires-2
 is-share-requires-2 c κs = search needs
 
-shared-slice-read-digit-value-4 : tie.Need-shared-slice-read-digit-value-4
-shared-slice-read-digit-value-4 c = omega (arith, digit-after-b (c .before) .size)
+shared-slice-read-share-number-4 : tie.Need-shared-slice-read-share-number-4
+shared-slice-read-share-number-4 c = omega (arith, digit-after-b (c .before) .size)
 
-digit-value-requires-4 : tie.Need-digit-value-requires-4
-digit-value-requires-4 c κs = digit-after-b (c .before) .first
+share-number-requires-4 : tie.Need-share-number-requires-4
+share-number-requires-4 c κs = digit-after-b (c .before) .first
 
 returns-5 : tie.Need-returns-5
 returns-5 c =
@@ -89,7 +89,7 @@ returns-5 c =
     let a = p .before .before .before .before .before .before .before .args in
     sym
     (is-share (a .shares) (a .declared) 98 ShareB (λ w. refl) (a .word .now) (search needs) (p .before .before .if5 .taken)
-    (sym (p .before .is-share2 .ensures) ∙ p .if6 .taken) _ (c .digit-value4 .ensures .0))
+    (sym (p .before .is-share2 .ensures) ∙ p .if6 .taken) _ (c .share-number4 .ensures))
 
 returns-6 : tie.Need-returns-6
 returns-6 c =
@@ -115,20 +115,20 @@ symbol-of-spec =
     (tie.spec
     shared-slice-read-letter
     is-product-requires
-    shared-slice-read-digit-value
-    digit-value-requires
-    shared-slice-read-digit-value-2
-    digit-value-requires-2
+    shared-slice-read-share-number
+    share-number-requires
+    shared-slice-read-share-number-2
+    share-number-requires-2
     returns
     returns-2
     is-share-requires
-    shared-slice-read-digit-value-3
-    digit-value-requires-3
+    shared-slice-read-share-number-3
+    share-number-requires-3
     returns-3
     returns-4
     is-share-requires-2
-    shared-slice-read-digit-value-4
-    digit-value-requires-4
+    shared-slice-read-share-number-4
+    share-number-requires-4
     returns-5
     returns-6
     mask-of-requires
