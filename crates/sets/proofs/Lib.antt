@@ -5,4 +5,5 @@ pub mod Revolving
 pub mod Division
 pub mod Unranking
 pub mod Entries
+pub mod Conditions
 pub mod Examples
