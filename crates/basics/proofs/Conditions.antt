@@ -4,19 +4,21 @@
 --     due, passed, settles       what a chain of any kind of answer tells, where its own answer tells values
 --     settles-told, settles-lent     the two kinds of answer
 --     less, least, equal         the tests on two numbers decide
---     one-of, one-of-three, fails, neither, not-both     tests that are put together decide what is put together
+--     one-of, one-of-three, one-of-four, both, fails, neither, not-both, some-decides     tests that are put together decide what is put together
 --     not-less, not-least        the tests on two numbers, the other way round
 use Prim.Native.Nat.{ℕ, _≤_, _<_}
 use mathlib.Core.Path.{_≡_, refl, sym, _∙_, ap, subst}
 use mathlib.Core.Logic.{_↔_, _⊎_, inl, inr, ⊎-elim}
-use mathlib.Core.Bool.{Bool, true, false, cond, not, _&&_, _||_, true≢false, false≢true}
+use mathlib.Core.Bool.{Bool, true, false, cond, not, _&&_, _||_, true≢false, false≢true, or-assoc}
 use mathlib.Core.List.{List, [], _∷_}
 use borrow.Author.Tests.{ltb-true, ltb-false, leb-true, leb-false, eqb-true, lt-ltb, le-ltb, le-leb, lt-leb, eq-eqb}
 use lib.Dec.{ltb, leb, eqb}
+use Rattle.basics.specs.Folds.{some, upTo}
 use Rattle.basics.specs.Told.{Told, Lent, values, refusal, turnedDown}
-use Rattle.basics.specs.Conditions.{Condition, _when_, First, None, Settles, SettlesLent}
+use Rattle.basics.specs.Conditions.{Condition, _when_, Some, First, None, Settles, SettlesLent}
 use Rattle.basics.proofs.Telling.{values-refusal}
-use Rattle.basics.proofs.Tests.{or-left, or-right, or-cases}
+use Rattle.basics.proofs.Tests.{and-left, and-right, and-both, or-left, or-right, or-cases}
+use Rattle.basics.proofs.Folds.{some-at, some-where}
 
 -- ---- the chain
 
@@ -139,9 +141,18 @@ module _ {x y : Bool} {P Q : Type 0} where
       there : not (x || y) ≡ true → (P → ⊥) × (Q → ⊥)
       there e = let no = fails (one-of p q) .0 e in (λ h. no (inl h), λ h. no (inr h))
 
+pub both : {x y : Bool} {P Q : Type 0} → (x ≡ true) ↔ P → (y ≡ true) ↔ Q → ((x && y) ≡ true) ↔ (P × Q)
+both {x} {y} p q = (λ e. (p .0 (and-left x y e), q .0 (and-right x y e)), λ h. and-both x y (p .1 (h .0)) (q .1 (h .1)))
+
 pub one-of-three : {x y z : Bool} {P Q R : Type 0} → (x ≡ true) ↔ P → (y ≡ true) ↔ Q → (z ≡ true) ↔ R → ((x || y || z) ≡ true) ↔ (P ⊎ Q ⊎ R)
-one-of-three p q r =
-    let all = one-of (one-of p q) r in (
-      λ e. ⊎-elim (⊎-elim inl (λ h. inr (inl h))) (λ h. inr (inr h)) (all .0 e),
-      λ h. all .1 (⊎-elim (λ h. inl (inl h)) (⊎-elim (λ h. inl (inr h)) inr) h),
-    )
+one-of-three p q r = simp or-assoc (one-of p (one-of q r))
+
+pub one-of-four : {w x y z : Bool} {O P Q R : Type 0} → (w ≡ true) ↔ O → (x ≡ true) ↔ P → (y ≡ true) ↔ Q → (z ≡ true) ↔ R
+    → ((w || x || y || z) ≡ true) ↔ (O ⊎ P ⊎ Q ⊎ R)
+one-of-four o p q r = simp or-assoc (one-of o (one-of p (one-of q r)))
+
+pub some-decides : (n : ℕ) (f : ℕ → Bool) {P : ℕ → Type 0} → ((i : ℕ) → (f i ≡ true) ↔ P i) → (some f (upTo n) ≡ true) ↔ Some n P
+some-decides n f decides = (
+  λ e. let r = some-where n f e in (r .0, r .1, decides (r .0) .0 (r .2)),
+  λ h. some-at n (h .0) f (h .1) (decides (h .0) .1 (h .2)),
+)

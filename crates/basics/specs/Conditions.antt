@@ -1,10 +1,11 @@
 -- When a call is turned down, and by which number (scope, "What each operation turns down").
 --     Condition      the number of a refusal, and when it is due
+--     Some           it holds of some number below n
 --     First          the condition with this number holds, and none before it does
 --     None           no condition holds
 --     Settles        a refusal is told exactly when its condition is the first that holds, values exactly when none does
 --     SettlesLent    the same where a buffer is lent, which every refusal leaves as it was
-use Prim.Native.Nat.{ℕ}
+use Prim.Native.Nat.{ℕ, _<_}
 use mathlib.Core.Path.{_≡_}
 use mathlib.Core.Logic.{_↔_, _⊎_}
 use mathlib.Core.List.{List, [], _∷_}
@@ -13,6 +14,9 @@ use Rattle.basics.specs.Told.{Told, Lent, values, refusal}
 infix 70 _when_
 pub data Condition : Type 1 where
   _when_ : ℕ → Type 0 → Condition
+
+abbrev pub Some : ℕ → (ℕ → Type 0) → Type 0
+Some n Holds = (i : ℕ) × (i < n) × Holds i
 
 -- in the order in which they are tested
 abbrev pub First : List Condition → ℕ → Type 0

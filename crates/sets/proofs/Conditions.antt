@@ -41,8 +41,8 @@ falls (x ∷ []) e = absurd (true≢false e)
 falls (x ∷ y ∷ s) e = go (and-fails (ltb x y) (rising (y ∷ s)) e) (falls (y ∷ s))
   where
     go : (ltb x y ≡ false) ⊎ (rising (y ∷ s) ≡ false) → (rising (y ∷ s) ≡ false → Falls (y ∷ s)) → Falls (x ∷ y ∷ s)
-    go (inl f) ih = record { place = 0; one = omega arith; falls = ltb-false x y f }
-    go (inr f) ih = let r = ih f in record { place = suc (r .place); one = suc-le-suc (r .one); falls = r .falls }
+    go (inl f) ih = (0, omega arith, (omega arith, ltb-false x y f))
+    go (inr f) ih = let r = ih f in (suc (r .0), suc-le-suc (r .1), (suc-le-suc (r .2 .0), r .2 .1))
 
 not-rising : (s : List ℕ) (i : ℕ) → suc i < length s → getD s (suc i) 0 ≤ getD s i 0 → rising s ≡ false
 not-rising [] i h l = absurd (not-suc-le-zero h)
@@ -51,15 +51,15 @@ not-rising (x ∷ y ∷ s) zero h l = and-false-left (ltb x y) (rising (y ∷ s)
 not-rising (x ∷ y ∷ s) (suc i) h l = and-false-right (ltb x y) (rising (y ∷ s)) (not-rising (y ∷ s) i (le-of-suc-le-suc h) l)
 
 pub rising-fails : (s : List ℕ) → (rising s ≡ false) ↔ Falls s
-rising-fails s = (falls s, λ f. not-rising s (f .place) (f .one) (f .falls))
+rising-fails s = (falls s, λ f. not-rising s (f .0) (f .2 .0) (f .2 .1))
 
 goes-beyond : (n : ℕ) (s : List ℕ) → below n s ≡ false → Beyond n s
 goes-beyond n [] e = absurd (true≢false e)
 goes-beyond n (x ∷ s) e = go (and-fails (ltb x n) (below n s) e) (goes-beyond n s)
   where
     go : (ltb x n ≡ false) ⊎ (below n s ≡ false) → (below n s ≡ false → Beyond n s) → Beyond n (x ∷ s)
-    go (inl f) ih = record { place = 0; one = omega arith; beyond = ltb-false x n f }
-    go (inr f) ih = let r = ih f in record { place = suc (r .place); one = suc-le-suc (r .one); beyond = r .beyond }
+    go (inl f) ih = (0, omega arith, ltb-false x n f)
+    go (inr f) ih = let r = ih f in (suc (r .0), suc-le-suc (r .1), r .2)
 
 not-below : (n : ℕ) (s : List ℕ) (i : ℕ) → i < length s → n ≤ getD s i 0 → below n s ≡ false
 not-below n [] i h l = absurd (not-suc-le-zero h)
@@ -67,7 +67,7 @@ not-below n (x ∷ s) zero h l = and-false-left (ltb x n) (below n s) (le-ltb x 
 not-below n (x ∷ s) (suc i) h l = and-false-right (ltb x n) (below n s) (not-below n s i (le-of-suc-le-suc h) l)
 
 pub below-fails : (n : ℕ) (s : List ℕ) → (below n s ≡ false) ↔ Beyond n s
-below-fails n s = (goes-beyond n s, λ b. not-below n s (b .place) (b .one) (b .beyond))
+below-fails n s = (goes-beyond n s, λ b. not-below n s (b .0) (b .1) (b .2))
 
 -- ---- the entries
 

@@ -7,7 +7,7 @@ use mathlib.Core.Path.{_≡_}
 use mathlib.Core.Logic.{_⊎_}
 use mathlib.Core.List.{List, [], _∷_}
 use lib.ListN.{length, getD}
-use Rattle.basics.specs.Conditions.{Condition, _when_}
+use Rattle.basics.specs.Conditions.{Condition, _when_, Some}
 use Rattle.limits.specs.Limits.{maxWires, maxSize}
 use Rattle.counts.specs.Counts.{binom}
 
@@ -24,15 +24,11 @@ setConditions wires size rank buffer =
     ∷ 18 when (binom wires size ≤ rank)
     ∷ []
 
-pub record Falls (set : List ℕ) : Type 0 where
-  pub place : ℕ
-  pub one : suc place < length set
-  pub falls : getD set (suc place) 0 ≤ getD set place 0
+abbrev pub Falls : List ℕ → Type 0
+Falls set = Some (length set) (λ i. (suc i < length set) × (getD set (suc i) 0 ≤ getD set i 0))
 
-pub record Beyond (wires : ℕ) (set : List ℕ) : Type 0 where
-  pub place : ℕ
-  pub one : place < length set
-  pub beyond : wires ≤ getD set place 0
+abbrev pub Beyond : ℕ → List ℕ → Type 0
+Beyond wires set = Some (length set) (λ i. wires ≤ getD set i 0)
 
 -- "12, 17, then 21, wires not strictly rising or beyond the table"
 abbrev pub rankConditions : ℕ → List ℕ → List Condition
