@@ -7,6 +7,7 @@
 --     Outputs      the output lines, one after the other
 --     Heading      the whole text: its header, and what is then read
 --     Telling      what reading tells, and what the answer then says of the text's grammar
+--     Conditions   which call gets which number
 --     Parts        what the check of a text part tells
 --     Samples      examples, proved by running the definitions
 pub mod Reaching
@@ -16,6 +17,7 @@ pub mod Gathering
 pub mod Ending
 pub mod Outputs
 pub mod Heading
+pub mod Conditions
 pub mod Parts
 pub mod Telling
 pub mod Samples

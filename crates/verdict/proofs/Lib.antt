@@ -1,4 +1,5 @@
 -- The theorems on verdicts.
+--     Conditions  which call gets which number
 --     Keeping     the elements of a list that pass a test, and the first of them
 --     Turns       the turns of the search's loops
 --     Admitting   the tests that both entries begin with
@@ -11,6 +12,7 @@
 --     Finds       demand 2 on the answers themselves
 --     Jobs        a search that is divided over machines
 --     Examples    the scope's texts, limits, and what demand 3 alone turns away
+pub mod Conditions
 pub mod Keeping
 pub mod Turns
 pub mod Admitting
