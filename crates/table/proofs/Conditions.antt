@@ -1,21 +1,27 @@
 -- Which call gets which number: each entry of `table` tells a refusal exactly when its condition is the first that holds, values exactly when none does.
 --     wrong-shares, wrong-length, bit-beyond, wrong-records     the tests of a table decide
 --     table-chain                                   every operation on a table begins with their chain
+--     function-chain                                the function check's
 --     table-settled, function-settled               the entries, for all arguments
-use Prim.Native.Nat.{ℕ, _%_}
-use mathlib.Core.Path.{_≡_}
-use mathlib.Core.Logic.{_↔_, Iff·rfl}
-use mathlib.Core.Bool.{true, _&&_, _||_}
+--     Sound, sound-exactly, sound-none, none-sound, accepted-exactly     what the conditions leave, said the other way round: the tests let through exactly that
+--     tested-answer, tested-refusal                 of a sound table the operation's own answer stands; what the tests refuse stands before any answer
+use Prim.Native.Nat.{ℕ, _%_, _≤_, _<_}
+use native.Mathlib.Omega.{arith}
+use mathlib.Core.Path.{_≡_, refl, sym, _∙_}
+use mathlib.Core.Logic.{_↔_, Iff·rfl, inl, inr, ⊎-elim}
+use mathlib.Core.Bool.{Bool, true, false, not, _&&_, _||_, true≢false}
 use mathlib.Core.List.{List, [], _∷_, _++_}
-use lib.Dec.{leb}
+use borrow.Author.Tests.{eqb-true, not-false}
+use lib.Dec.{leb, eqb}
 use lib.ListN.{length}
 use Rattle.basics.specs.Folds.{some, oneIf, upTo}
 use Rattle.basics.specs.Told.{values, refusal}
-use Rattle.basics.specs.Conditions.{Condition, Settles}
+use Rattle.basics.specs.Conditions.{Condition, None, Settles}
 use Rattle.basics.proofs.Conditions.{Chain, own, test, settles-told, less, least, equal, fails, both, one-of, one-of-three, one-of-four, not-both, not-least, some-decides}
 use Rattle.limits.specs.Limits.{minShares, maxShares, maxMasks, recordBytes, maxTableBytes}
 use Rattle.wires.specs.Wires.{Terms, beyond}
 use Rattle.wires.specs.Function.{computes}
+use Rattle.wires.proofs.Narrow.{Within}
 use Rattle.records.specs.Layout.{field, recordAt, wireAt, wireCount, wires}
 use Rattle.table.specs.Answers.{wrongShares, wrongLength, wrongRecord, tested, tableCheck, functionCheck}
 use Rattle.table.specs.Conditions.{WrongShares, WrongLength, BitBeyond, WrongRecord, tableConditions, functionConditions}
@@ -58,9 +64,95 @@ module _ (table : List ℕ) (shares masks : ℕ) where
   pub table-settled : Settles (tableConditions table shares masks) (tableCheck table shares masks)
   table-settled = settles-told (table-chain (own refusal (values [])))
 
+  pub function-chain : (function : ℕ)
+      → Chain refusal (values (oneIf (computes function shares masks (wires table)) ∷ [])) (functionConditions table shares masks function)
+      (functionCheck table shares masks function)
+  function-chain function =
+      table-chain (test 20 (not-both (not-least 1 function) (not-least function 3))
+      (own refusal (values (oneIf (computes function shares masks (wires table)) ∷ []))))
+
   pub function-settled : (function : ℕ) → Settles (functionConditions table shares masks function) (functionCheck table shares masks function)
-  function-settled function =
-      settles-told
-      (table-chain
-      (test 20 (not-both (not-least 1 function) (not-least function 3))
-      (own refusal (values (oneIf (computes function shares masks (wires table)) ∷ [])))))
+  function-settled function = settles-told (function-chain function)
+
+-- ---- what the conditions leave
+
+-- shares 2 to 8, masks up to 64; a multiple of 24 bytes, up to 12,288; in every record no bit beyond shares and masks, and byte 18 at most 1
+pub record Sound (table : List ℕ) (shares masks : ℕ) : Type 0 where
+  pub low : 2 ≤ shares
+  pub high : shares ≤ 8
+  pub few : masks ≤ 64
+  pub whole : length table % 24 ≡ 0
+  pub short : length table ≤ 12288
+  pub bits : (w : ℕ) → w < wireCount table → Within 8 64 shares masks (wireAt table w .terms)
+  pub flag : (w : ℕ) → w < wireCount table → field 18 1 (recordAt table w) ≤ 1
+
+module _ (table : List ℕ) (shares masks : ℕ) where
+  pub sound-exactly : ((WrongShares shares masks → ⊥) × (WrongLength table → ⊥) × (WrongRecord table shares masks → ⊥)) ↔ Sound table shares masks
+  sound-exactly = (λ n. there (n .0) (n .1) (n .2), λ s. (right s, long s, records s))
+    where
+      unset : (b : Bool) → (b ≡ true → ⊥) → b ≡ false
+      unset true h = absurd (h refl)
+      unset false h = refl
+
+      there : (WrongShares shares masks → ⊥) → (WrongLength table → ⊥) → (WrongRecord table shares masks → ⊥) → Sound table shares masks
+      there a b c =
+          let no-fewer : shares < 2 → ⊥ = λ h. a (inl h) in
+          let no-more : 8 < shares → ⊥ = λ h. a (inr (inl h)) in
+          let not-many : 64 < masks → ⊥ = λ h. a (inr (inr h)) in
+          let not-long : 12288 < length table → ⊥ = λ h. b (inr h) in
+          record {
+            low = omega arith;
+            high = omega arith;
+            few = omega arith;
+            whole = eqb-true (length table % 24) 0 (not-false (eqb (length table % 24) 0)
+                (unset (not (eqb (length table % 24) 0)) (λ e. b (inl (fails (equal (length table % 24) 0) .0 e)))));
+            short = omega arith;
+            bits = λ w l. record {
+              noProduct = λ i j p q h. unset (wireAt table w .terms .product i j) (λ e. c (w, l, inl (inl (i, p, (j, q, (e, h))))));
+              noA = λ i p h. unset (wireAt table w .terms .shareA i) (λ e. c (w, l, inl (inr (inl (i, p, (e, h))))));
+              noB = λ j p h. unset (wireAt table w .terms .shareB j) (λ e. c (w, l, inl (inr (inr (inl (j, p, (e, h)))))));
+              noMask = λ k p h. unset (wireAt table w .terms .mask k) (λ e. c (w, l, inl (inr (inr (inr (k, p, (e, h)))))));
+            };
+            flag = λ w l. let low : 1 < field 18 1 (recordAt table w) → ⊥ = λ h. c (w, l, inr h) in omega arith;
+          }
+
+      right : Sound table shares masks → WrongShares shares masks → ⊥
+      right s (inl h) = omega arith
+      right s (inr (inl h)) = omega arith
+      right s (inr (inr h)) = omega arith
+
+      long : Sound table shares masks → WrongLength table → ⊥
+      long s (inl odd) = odd (s .whole)
+      long s (inr h) = omega arith
+
+      bit : (t : Terms) → Within 8 64 shares masks t → BitBeyond shares masks t → true ≡ false
+      bit t h (inl b) = sym (b .2 .2 .0) ∙ h .noProduct (b .0) (b .2 .0) (b .1) (b .2 .1) (b .2 .2 .1)
+      bit t h (inr (inl b)) = sym (b .2 .0) ∙ h .noA (b .0) (b .1) (b .2 .1)
+      bit t h (inr (inr (inl b))) = sym (b .2 .0) ∙ h .noB (b .0) (b .1) (b .2 .1)
+      bit t h (inr (inr (inr b))) = sym (b .2 .0) ∙ h .noMask (b .0) (b .1) (b .2 .1)
+
+      records : Sound table shares masks → WrongRecord table shares masks → ⊥
+      records s r = ⊎-elim (λ b. true≢false (bit (wireAt table (r .0) .terms) (s .bits (r .0) (r .1)) b)) (λ h. omega (arith, s .flag (r .0) (r .1))) (r .2)
+
+  -- where none of the table's conditions holds, and none of the operation's own
+  pub sound-none : {Own : Type 0} → Sound table shares masks → Own
+      → (WrongShares shares masks → ⊥) × ((WrongLength table → ⊥) × ((WrongRecord table shares masks → ⊥) × Own))
+  sound-none s rest = let n = sound-exactly .1 s in (n .0, (n .1, (n .2, rest)))
+
+  pub none-sound : {Own : Type 0} → (WrongShares shares masks → ⊥) × ((WrongLength table → ⊥) × ((WrongRecord table shares masks → ⊥) × Own))
+      → Sound table shares masks × Own
+  none-sound n = (sound-exactly .0 (n .0, n .1 .0, n .1 .1 .0), n .1 .1 .1)
+
+  -- the tests let through exactly what is sound
+  pub accepted-exactly : (values [] ≡ tableCheck table shares masks) ↔ Sound table shares masks
+  accepted-exactly = (
+    λ e. none-sound (table-settled table shares masks .answered .0 ([], sym e)) .0,
+    λ s. sym (table-chain table shares masks (own refusal (values [])) .none (sound-none s tt)),
+  )
+
+  module _ {A : Type 0} (refuse : ℕ → A) (answer : A) where
+    pub tested-answer : Sound table shares masks → tested refuse table shares masks answer ≡ answer
+    tested-answer s = table-chain table shares masks (own refuse answer) .none (sound-none s tt)
+
+    pub tested-refusal : (k : ℕ) → refusal k ≡ tableCheck table shares masks → tested refuse table shares masks answer ≡ refuse k
+    tested-refusal k e = table-chain table shares masks (own refuse answer) .first k (table-settled table shares masks .refused k .0 (sym e))

@@ -2,23 +2,27 @@
 -- and a refusal leaves the buffer as it was.
 --     opened-chain                       both entries begin with the chain of a table's tests and the notion's
 --     shown-told, ranked-told            what shows the first of a list of sets tells values
---     verdict-chain, range-chain         the entries' tests, and what is answered where none of them refuses
 --     verdict-settled, range-settled     the entries, for all arguments
-use Prim.Native.Nat.{ℕ}
+--     verdict-ordered, range-asked       values are told exactly where no test turns the call down
+--     verdict-answered, range-answered   and what is told then is the first breaking set of the list that is searched
+use Prim.Native.Nat.{ℕ, _≤_, _<_}
+use native.Mathlib.Omega.{arith}
 use mathlib.Core.Path.{_≡_, refl}
+use mathlib.Core.Logic.{_↔_, Iff·trans, inl, inr, ⊎-elim}
 use mathlib.Core.List.{List, [], _∷_, _++_}
 use lib.ListN.{length}
 use Rattle.basics.specs.Told.{Lent, values, turnedDown}
-use Rattle.basics.specs.Conditions.{Condition, _when_, SettlesLent}
+use Rattle.basics.specs.Conditions.{Condition, _when_, None, SettlesLent}
 use Rattle.basics.proofs.Conditions.{Chain, own, test, settles-lent, less, equal, neither, not-both, not-less, not-least}
 use Rattle.limits.specs.Limits.{maxSize}
 use Rattle.counts.specs.Counts.{binom}
 use Rattle.records.specs.Layout.{wireCount}
 use Rattle.table.specs.Conditions.{tableConditions}
-use Rattle.table.proofs.Conditions.{table-chain}
+use Rattle.table.proofs.Conditions.{table-chain, sound-none, none-sound, accepted-exactly}
 use Rattle.sets.specs.Order.{rankOf}
 use Rattle.verdict.specs.Search.{searched, stretch, breakingSets}
 use Rattle.verdict.specs.Answers.{notionOf, opened, firstShown, firstRanked, verdictOf, rangeCheck}
+use Rattle.verdict.specs.Jobs.{Ordered, Asked}
 use Rattle.verdict.specs.Conditions.{WrongNotion, verdictConditions, rangeConditions}
 
 pub shown-told : (l : List (List ℕ)) (buffer : List ℕ) → (v : List ℕ) × (firstShown l buffer .told ≡ values v)
@@ -36,10 +40,10 @@ module _ (table : List ℕ) (shares masks notion : ℕ) where
   opened-chain c = table-chain table shares masks (test 14 (neither (equal notion 1) (equal notion 2)) c)
 
   module _ (order : ℕ) (buffer : List ℕ) where
-    abbrev pub shown : Lent
+    abbrev shown : Lent
     shown = firstShown (breakingSets (notionOf notion) table shares masks (searched (wireCount table) order)) buffer
 
-    pub verdict-chain : Chain (λ n. turnedDown n buffer) shown (verdictConditions table shares masks notion order buffer)
+    verdict-chain : Chain (λ n. turnedDown n buffer) shown (verdictConditions table shares masks notion order buffer)
         (verdictOf table shares masks notion order buffer)
     verdict-chain =
         opened-chain
@@ -53,11 +57,29 @@ module _ (table : List ℕ) (shares masks notion : ℕ) where
         let v = shown-told (breakingSets (notionOf notion) table shares masks (searched (wireCount table) order)) buffer in
         settles-lent verdict-chain (v .0) (v .1)
 
+    verdict-none : None (verdictConditions table shares masks notion order buffer) ↔ Ordered table shares masks notion order buffer
+    verdict-none = (
+      λ n. let s = none-sound table shares masks n in
+          let low : order < 1 → ⊥ = λ h. s .1 .1 .0 (inl h) in
+          let high : shares ≤ order → ⊥ = λ h. s .1 .1 .0 (inr h) in
+          let room : length buffer < order → ⊥ = s .1 .1 .1 .0 in
+          record { sound = accepted-exactly table shares masks .1 (s .0); known = s .1 .0; low = omega arith; high = omega arith; room = omega arith },
+      λ o. sound-none table shares masks (accepted-exactly table shares masks .0 (o .sound))
+          (o .known, (⊎-elim (λ h. omega arith) (λ h. omega arith), (λ h. omega arith, tt))),
+    )
+
+    pub verdict-ordered : ((l : List ℕ) × (verdictOf table shares masks notion order buffer .told ≡ values l))
+        ↔ Ordered table shares masks notion order buffer
+    verdict-ordered = Iff·trans (verdict-settled .settles .answered) verdict-none
+
+    pub verdict-answered : Ordered table shares masks notion order buffer → verdictOf table shares masks notion order buffer ≡ shown
+    verdict-answered o = verdict-chain .none (verdict-none .1 o)
+
   module _ (size from to : ℕ) (buffer : List ℕ) where
-    abbrev pub ranked : Lent
+    abbrev ranked : Lent
     ranked = firstRanked (wireCount table) (breakingSets (notionOf notion) table shares masks (stretch (wireCount table) size from to)) buffer
 
-    pub range-chain : Chain (λ n. turnedDown n buffer) ranked (rangeConditions table shares masks notion size from to buffer)
+    range-chain : Chain (λ n. turnedDown n buffer) ranked (rangeConditions table shares masks notion size from to buffer)
         (rangeCheck table shares masks notion size from to buffer)
     range-chain =
         opened-chain
@@ -71,3 +93,24 @@ module _ (table : List ℕ) (shares masks notion : ℕ) where
     range-settled =
         let v = ranked-told (wireCount table) (breakingSets (notionOf notion) table shares masks (stretch (wireCount table) size from to)) buffer in
         settles-lent range-chain (v .0) (v .1)
+
+    range-none : None (rangeConditions table shares masks notion size from to buffer)
+        ↔ (Asked table shares masks notion size buffer × (from ≤ to) × (to ≤ binom (wireCount table) size))
+    range-none = (
+      λ n. let s = none-sound table shares masks n in
+          let small : 7 < size → ⊥ = s .1 .1 .0 in
+          let room : length buffer < size → ⊥ = s .1 .1 .1 .0 in
+          let rises : to < from → ⊥ = λ h. s .1 .1 .1 .1 .0 (inl h) in
+          let ends : binom (wireCount table) size < to → ⊥ = λ h. s .1 .1 .1 .1 .0 (inr h) in
+          (record { sound = accepted-exactly table shares masks .1 (s .0); known = s .1 .0; small = omega arith; room = omega arith }, omega arith, omega arith),
+      λ o. sound-none table shares masks (accepted-exactly table shares masks .0 (o .0 .sound))
+          (o .0 .known, (λ h. omega arith, (λ h. omega arith, (⊎-elim (λ h. omega arith) (λ h. omega arith), tt)))),
+    )
+
+    pub range-asked : ((l : List ℕ) × (rangeCheck table shares masks notion size from to buffer .told ≡ values l))
+        ↔ (Asked table shares masks notion size buffer × (from ≤ to) × (to ≤ binom (wireCount table) size))
+    range-asked = Iff·trans (range-settled .settles .answered) range-none
+
+    pub range-answered : Asked table shares masks notion size buffer → from ≤ to → to ≤ binom (wireCount table) size
+        → rangeCheck table shares masks notion size from to buffer ≡ ranked
+    range-answered o rises ends = range-chain .none (range-none .1 (o, rises, ends))

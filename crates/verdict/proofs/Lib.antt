@@ -7,7 +7,7 @@
 --     Watching    demand 3
 --     Entries     the verdict's answers, path by path
 --     Ranges      the range check's answers, path by path
---     Accepting   what the entries accept, and what they answer then
+--     Accepting   back from an answer to the list that it shows
 --     First       demand 2 in its own words
 --     Finds       demand 2 on the answers themselves
 --     Jobs        a search that is divided over machines
