@@ -1,12 +1,14 @@
 -- A chain of tests, each of which turns down or goes on, settles its conditions where each test decides its condition.
 --     Chain                      each condition's refusal where it is the first that holds; the operation's own answer where none does; one or the other
 --     own, test                  a chain of no tests; one test more, before the others
+--     values-refusal             values are no refusal
 --     due, passed, settles       what a chain of any kind of answer tells, where its own answer tells values
---     settles-told, settles-lent     the two kinds of answer
+--     settles-told, own-told, settles-lent     the two kinds of answer; values that are told are the operation's own
 --     less, least, equal         the tests on two numbers decide
 --     one-of, one-of-three, one-of-four, both, fails, neither, not-both, some-decides     tests that are put together decide what is put together
 --     not-less, not-least        the tests on two numbers, the other way round
 use Prim.Native.Nat.{ℕ, _≤_, _<_}
+use native.Mathlib.Omega.{arith}
 use mathlib.Core.Path.{_≡_, refl, sym, _∙_, ap, subst}
 use mathlib.Core.Logic.{_↔_, _⊎_, inl, inr, ⊎-elim}
 use mathlib.Core.Bool.{Bool, true, false, cond, not, _&&_, _||_, true≢false, false≢true, or-assoc}
@@ -16,7 +18,6 @@ use lib.Dec.{ltb, leb, eqb}
 use Rattle.basics.specs.Folds.{some, upTo}
 use Rattle.basics.specs.Told.{Told, Lent, values, refusal, turnedDown}
 use Rattle.basics.specs.Conditions.{Condition, _when_, Some, First, None, Settles, SettlesLent}
-use Rattle.basics.proofs.Telling.{values-refusal}
 use Rattle.basics.proofs.Tests.{and-left, and-right, and-both, or-left, or-right, or-cases}
 use Rattle.basics.proofs.Folds.{some-at, some-where}
 
@@ -57,6 +58,9 @@ module _ {A : Type 0} {refuse : ℕ → A} {answer : A} where
 
 -- ---- what it tells
 
+pub values-refusal : (l : List ℕ) (k : ℕ) → values l ≡ refusal k → ⊥
+values-refusal l k e = let z : _≡_ {A = ℕ} 0 1 = cc in omega (arith, z)
+
 module _ {A : Type 0} {refuse : ℕ → A} {answer : A} {conditions : List Condition} {chain : A} (c : Chain refuse answer conditions chain)
     (tells : A → Told) (refuses : (n : ℕ) → tells (refuse n) ≡ refusal n) (l : List ℕ) (answers : tells answer ≡ values l) where
   same-number : (m n : ℕ) → chain ≡ refuse m → tells chain ≡ refusal n → m ≡ n
@@ -84,6 +88,11 @@ module _ {A : Type 0} {refuse : ℕ → A} {answer : A} {conditions : List Condi
 
 pub settles-told : {l : List ℕ} {told : Told} {conditions : List Condition} → Chain refusal (values l) conditions told → Settles conditions told
 settles-told {l} c = settles c (λ (t : Told). t) (λ n. refl) l refl
+
+-- values that are told are the operation's own
+pub own-told : {l : List ℕ} {told : Told} {conditions : List Condition} → Chain refusal (values l) conditions told → (k : List ℕ) → told ≡ values k
+    → values l ≡ values k
+own-told {l} c k e = sym (c .none (passed c (λ (t : Told). t) (λ n. refl) l refl k e)) ∙ e
 
 pub settles-lent : {answer chain : Lent} {conditions : List Condition} {buffer : List ℕ}
     → Chain (λ n. turnedDown n buffer) answer conditions chain → (l : List ℕ) → answer .told ≡ values l → SettlesLent conditions buffer chain

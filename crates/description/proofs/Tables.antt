@@ -16,7 +16,7 @@ use Rattle.wires.proofs.Narrow.{Within, within}
 use Rattle.records.specs.Layout.{field, decode, offsetOf, lengthOf, recordAt, wireAt, wireCount, wires, noSum}
 use Rattle.records.proofs.Bytes.{wires-none, wires-more}
 use Rattle.table.specs.Answers.{tableCheck}
-use Rattle.table.proofs.Entries.{Sound, accepted-exactly}
+use Rattle.table.proofs.Conditions.{Sound, accepted-exactly}
 use Rattle.description.specs.Listing.{encode, recordsOf, wireOf}
 use Rattle.description.specs.Grammar.{Description, Spells, Limits, wiresOf, maskCount}
 use Rattle.description.specs.declared.Listed.{Listed}

@@ -1,5 +1,6 @@
 -- Which call gets which number: each entry of `sets` tells a refusal exactly when its condition is the first that holds, values exactly when none does.
 --     rising-fails, below-fails                 the tests of a set decide
+--     count-chain, set-chain, rank-chain, job-chain     the entries' tests, and their own answers
 --     count-settled, set-settled, rank-settled, job-settled     the entries, for all arguments
 use Prim.Native.Nat.{ℕ, zero, suc, _≤_, _<_, suc-le-suc}
 use native.Mathlib.Nat.{le-of-suc-le-suc, not-suc-le-zero}
@@ -11,9 +12,9 @@ use mathlib.Core.List.{List, [], _∷_, _++_}
 use borrow.Author.Tests.{ltb-false, le-ltb}
 use lib.Dec.{ltb}
 use lib.ListN.{length, drop, getD}
-use Rattle.basics.specs.Told.{values, refusal, turnedDown}
+use Rattle.basics.specs.Told.{Lent, values, refusal, turnedDown}
 use Rattle.basics.specs.Conditions.{Settles, SettlesLent}
-use Rattle.basics.proofs.Conditions.{own, test, settles-told, settles-lent, less, least, equal, one-of-three, not-both}
+use Rattle.basics.proofs.Conditions.{Chain, own, test, settles-told, settles-lent, less, least, equal, one-of-three, not-both}
 use Rattle.limits.specs.Limits.{maxWires, maxSize}
 use Rattle.counts.specs.Counts.{binom}
 use Rattle.sets.specs.Order.{setAt, rankOf, rising, below}
@@ -71,33 +72,49 @@ below-fails n s = (goes-beyond n s, λ b. not-below n s (b .0) (b .1) (b .2))
 
 -- ---- the entries
 
-pub count-settled : (wires size : ℕ) → Settles (countConditions wires size) (setCount wires size)
-count-settled wires size =
-    settles-told (test 12 (less maxWires wires) (test 17 (less maxSize size) (own refusal (values (binom wires size ∷ [])))))
+module _ (wires size : ℕ) where
+  pub count-chain : Chain refusal (values (binom wires size ∷ [])) (countConditions wires size) (setCount wires size)
+  count-chain = test 12 (less maxWires wires) (test 17 (less maxSize size) (own refusal (values (binom wires size ∷ []))))
 
-pub set-settled : (wires size rank : ℕ) (buffer : List ℕ)
-    → SettlesLent (setConditions wires size rank buffer) buffer (setFromRank wires size rank buffer)
-set-settled wires size rank buffer =
-    settles-lent
-    (test 12 (less maxWires wires)
-    (test 17 (less maxSize size)
-    (test 16 (less (length buffer) size)
-    (test 18 (least (binom wires size) rank)
-    (own (λ n. turnedDown n buffer) (record { told = values []; held = setAt wires size rank ++ drop size buffer }))))))
-    [] refl
+  pub count-settled : Settles (countConditions wires size) (setCount wires size)
+  count-settled = settles-told count-chain
 
-pub rank-settled : (wires : ℕ) (set : List ℕ) → Settles (rankConditions wires set) (rankFromSet wires set)
-rank-settled wires set =
-    settles-told
-    (test 12 (less maxWires wires)
-    (test 17 (less maxSize (length set))
-    (test 21 (not-both (rising-fails set) (below-fails wires set))
-    (own refusal (values (rankOf wires set ∷ []))))))
+  module _ (rank : ℕ) (buffer : List ℕ) where
+    abbrev pub written : Lent
+    written = record { told = values []; held = setAt wires size rank ++ drop size buffer }
 
-pub job-settled : (wires size job jobs : ℕ) → Settles (jobConditions wires size job jobs) (jobRanks wires size job jobs)
-job-settled wires size job jobs =
-    settles-told
-    (test 12 (less maxWires wires)
-    (test 17 (less maxSize size)
-    (test 19 (one-of-three (equal jobs 0) (less 65536 jobs) (least jobs job))
-    (own refusal (values (start (binom wires size) jobs job ∷ start (binom wires size) jobs (suc job) ∷ []))))))
+    pub set-chain : Chain (λ n. turnedDown n buffer) written (setConditions wires size rank buffer) (setFromRank wires size rank buffer)
+    set-chain =
+        test 12 (less maxWires wires)
+        (test 17 (less maxSize size)
+        (test 16 (less (length buffer) size)
+        (test 18 (least (binom wires size) rank)
+        (own (λ n. turnedDown n buffer) written))))
+
+    pub set-settled : SettlesLent (setConditions wires size rank buffer) buffer (setFromRank wires size rank buffer)
+    set-settled = settles-lent set-chain [] refl
+
+  module _ (job jobs : ℕ) where
+    abbrev pub bounds : List ℕ
+    bounds = start (binom wires size) jobs job ∷ start (binom wires size) jobs (suc job) ∷ []
+
+    pub job-chain : Chain refusal (values bounds) (jobConditions wires size job jobs) (jobRanks wires size job jobs)
+    job-chain =
+        test 12 (less maxWires wires)
+        (test 17 (less maxSize size)
+        (test 19 (one-of-three (equal jobs 0) (less 65536 jobs) (least jobs job))
+        (own refusal (values bounds))))
+
+    pub job-settled : Settles (jobConditions wires size job jobs) (jobRanks wires size job jobs)
+    job-settled = settles-told job-chain
+
+module _ (wires : ℕ) (set : List ℕ) where
+  pub rank-chain : Chain refusal (values (rankOf wires set ∷ [])) (rankConditions wires set) (rankFromSet wires set)
+  rank-chain =
+      test 12 (less maxWires wires)
+      (test 17 (less maxSize (length set))
+      (test 21 (not-both (rising-fails set) (below-fails wires set))
+      (own refusal (values (rankOf wires set ∷ [])))))
+
+  pub rank-settled : Settles (rankConditions wires set) (rankFromSet wires set)
+  rank-settled = settles-told rank-chain

@@ -4,6 +4,6 @@ pub mod Rising
 pub mod Revolving
 pub mod Division
 pub mod Unranking
-pub mod Entries
 pub mod Conditions
+pub mod Entries
 pub mod Examples

@@ -3,6 +3,7 @@
 --     table-chain                                   every operation on a table begins with their chain
 --     function-chain                                the function check's
 --     table-settled, function-settled               the entries, for all arguments
+--     length-exactly                                a length that is not wrong
 --     Sound, sound-exactly, sound-none, none-sound, accepted-exactly     what the conditions leave, said the other way round: the tests let through exactly that
 --     tested-answer, tested-refusal                 of a sound table the operation's own answer stands; what the tests refuse stands before any answer
 use Prim.Native.Nat.{ℕ, _%_, _≤_, _<_}
@@ -16,7 +17,7 @@ use lib.Dec.{leb, eqb}
 use lib.ListN.{length}
 use Rattle.basics.specs.Folds.{some, oneIf, upTo}
 use Rattle.basics.specs.Told.{values, refusal}
-use Rattle.basics.specs.Conditions.{Condition, None, Settles}
+use Rattle.basics.specs.Conditions.{Condition, Settles}
 use Rattle.basics.proofs.Conditions.{Chain, own, test, settles-told, less, least, equal, fails, both, one-of, one-of-three, one-of-four, not-both, not-least, some-decides}
 use Rattle.limits.specs.Limits.{minShares, maxShares, maxMasks, recordBytes, maxTableBytes}
 use Rattle.wires.specs.Wires.{Terms, beyond}
@@ -86,27 +87,35 @@ pub record Sound (table : List ℕ) (shares masks : ℕ) : Type 0 where
   pub bits : (w : ℕ) → w < wireCount table → Within 8 64 shares masks (wireAt table w .terms)
   pub flag : (w : ℕ) → w < wireCount table → field 18 1 (recordAt table w) ≤ 1
 
+unset : (b : Bool) → (b ≡ true → ⊥) → b ≡ false
+unset true h = absurd (h refl)
+unset false h = refl
+
+pub length-exactly : (table : List ℕ) → (WrongLength table → ⊥) ↔ ((length table % 24 ≡ 0) × (length table ≤ 12288))
+length-exactly table = (
+  λ right. let whole : eqb (length table % 24) 0 ≡ true =
+      not-false (eqb (length table % 24) 0) (unset (not (eqb (length table % 24) 0)) (λ e. right (inl (fails (equal (length table % 24) 0) .0 e)))) in
+      let short : 12288 < length table → ⊥ = λ h. right (inr h) in
+      (eqb-true (length table % 24) 0 whole, omega arith),
+  λ h. ⊎-elim (λ odd. odd (h .0)) (λ l. omega arith),
+)
+
 module _ (table : List ℕ) (shares masks : ℕ) where
   pub sound-exactly : ((WrongShares shares masks → ⊥) × (WrongLength table → ⊥) × (WrongRecord table shares masks → ⊥)) ↔ Sound table shares masks
-  sound-exactly = (λ n. there (n .0) (n .1) (n .2), λ s. (right s, long s, records s))
+  sound-exactly = (λ n. there (n .0) (n .1) (n .2), λ s. (right s, length-exactly table .1 (s .whole, s .short), records s))
     where
-      unset : (b : Bool) → (b ≡ true → ⊥) → b ≡ false
-      unset true h = absurd (h refl)
-      unset false h = refl
-
       there : (WrongShares shares masks → ⊥) → (WrongLength table → ⊥) → (WrongRecord table shares masks → ⊥) → Sound table shares masks
       there a b c =
           let no-fewer : shares < 2 → ⊥ = λ h. a (inl h) in
           let no-more : 8 < shares → ⊥ = λ h. a (inr (inl h)) in
           let not-many : 64 < masks → ⊥ = λ h. a (inr (inr h)) in
-          let not-long : 12288 < length table → ⊥ = λ h. b (inr h) in
+          let right = length-exactly table .0 b in
           record {
             low = omega arith;
             high = omega arith;
             few = omega arith;
-            whole = eqb-true (length table % 24) 0 (not-false (eqb (length table % 24) 0)
-                (unset (not (eqb (length table % 24) 0)) (λ e. b (inl (fails (equal (length table % 24) 0) .0 e)))));
-            short = omega arith;
+            whole = right .0;
+            short = right .1;
             bits = λ w l. record {
               noProduct = λ i j p q h. unset (wireAt table w .terms .product i j) (λ e. c (w, l, inl (inl (i, p, (j, q, (e, h))))));
               noA = λ i p h. unset (wireAt table w .terms .shareA i) (λ e. c (w, l, inl (inr (inl (i, p, (e, h))))));
@@ -120,10 +129,6 @@ module _ (table : List ℕ) (shares masks : ℕ) where
       right s (inl h) = omega arith
       right s (inr (inl h)) = omega arith
       right s (inr (inr h)) = omega arith
-
-      long : Sound table shares masks → WrongLength table → ⊥
-      long s (inl odd) = odd (s .whole)
-      long s (inr h) = omega arith
 
       bit : (t : Terms) → Within 8 64 shares masks t → BitBeyond shares masks t → true ≡ false
       bit t h (inl b) = sym (b .2 .2 .0) ∙ h .noProduct (b .0) (b .2 .0) (b .1) (b .2 .1) (b .2 .2 .1)
