@@ -4,26 +4,22 @@
 --     set-gave, set-refused
 --     rank-gave, rank-refused
 --     job-gave, job-refused
-use Prim.Native.Nat.{ℕ, suc, _<_}
+use Prim.Native.Nat.{ℕ, _≤_, _<_}
 use native.Mathlib.Omega.{arith}
 use mathlib.Core.Path.{_≡_, refl, sym, _∙_, ap}
-use mathlib.Core.Bool.{Bool, cond, not, _&&_, _||_}
 use mathlib.Core.List.{List, [], _∷_, _++_}
-use borrow.Author.Tests.{leb-false}
-use lib.Dec.{ltb, leb, eqb}
-use lib.ListN.{length, take, drop}
-use Rattle.limits.specs.Limits.{maxWires, maxSize}
-use Rattle.basics.specs.Told.{Told, Lent, values, refusal, turnedDown}
-use Rattle.basics.proofs.Telling.{test-passed, test-kept, values-refusal}
+use lib.ListN.{take, drop}
+use Rattle.basics.specs.Told.{Lent, values, refusal}
+use Rattle.basics.proofs.Conditions.{own-told}
+use Rattle.sets.proofs.Conditions.{count-chain, set-chain, rank-chain, job-chain, set-settled}
 use Rattle.counts.specs.Counts.{binom}
 use Rattle.sets.specs.declared.Refusal.{Refusal}
 use Rattle.sets.specs.declared.CountAnswer.{CountAnswer}
 use Rattle.sets.specs.declared.SetAnswer.{SetAnswer}
 use Rattle.sets.specs.declared.RankAnswer.{RankAnswer}
 use Rattle.sets.specs.declared.JobAnswer.{JobAnswer}
-use Rattle.revolving.specs.Order.{setAt, rankOf, rising, below}
-use Rattle.sets.specs.Division.{start}
-use Rattle.sets.specs.Answers.{refusalNumber, countTold, setTold, rankTold, jobTold, maxJobs, setCount, setFromRank, rankFromSet, jobRanks}
+use Rattle.revolving.specs.Order.{setAt}
+use Rattle.sets.specs.Answers.{refusalNumber, countTold, setTold, rankTold, jobTold, setCount, setFromRank, rankFromSet, jobRanks}
 use Rattle.revolving.proofs.Rising.{isSet-parts}
 use Rattle.revolving.proofs.Revolving.{set-at-is-set}
 use Rattle.verdict.specs.Answers.{written}
@@ -43,24 +39,13 @@ sets-positive Refusal.NotASet = omega arith
 not-0 : {A : Type 0} (why : Refusal) (status : ℕ) → status ≡ refusalNumber why → status ≡ 0 → A
 not-0 why status s zero = absurd (omega (arith, sets-positive why))
 
--- where values are told, a test of a chain passed, and the rest tells them
-passes : (b : Bool) (k : ℕ) (rest : Told) (l : List ℕ) → cond b (refusal k) rest ≡ values l → rest ≡ values l
-passes b k rest l e = test-passed refusal (λ t. t) (λ k. refl) b k rest l e .1
-
 module _ (wires size : ℕ) where
-  abbrev sized : Told → Told
-  sized rest = cond (ltb maxSize size) (refusal 17) rest
-
-  -- the tests 12 and 17, which three of the four begin with
-  within : (rest : Told) (l : List ℕ) → cond (ltb maxWires wires) (refusal 12) (sized rest) ≡ values l → rest ≡ values l
-  within rest l e = passes (ltb maxSize size) 17 rest l (passes (ltb maxWires wires) 12 (sized rest) l e)
-
   module _ (answer : CountAnswer) (told : countTold answer ≡ setCount wires size) (before : ℕ) where
     pub count-gave : (sets : ℕ) → answer ≡ CountAnswer.Sets sets
         → Numbers (setCount wires size) (CountSays 0 sets wires size) 0 (sets ∷ []) (before ∷ [])
     count-gave sets e =
         let tells = ap countTold (sym e) ∙ told in
-        let same = within (values (binom wires size ∷ [])) (sets ∷ []) (sym tells) in
+        let same = own-told (count-chain wires size) (sets ∷ []) (sym tells) in
         numbers-gave _ _ _ _ tells (λ zero. cc)
 
     pub count-refused : (why : Refusal) (status : ℕ) → answer ≡ CountAnswer.Refused why → status ≡ refusalNumber why
@@ -72,9 +57,7 @@ module _ (wires size : ℕ) where
         → Numbers (jobRanks wires size job jobs) (JobSays 0 from to wires size job jobs) 0 (from ∷ to ∷ []) (from-before ∷ to-before ∷ [])
     job-gave from to e =
         let tells = ap jobTold (sym e) ∙ told in
-        let ranks = values (start (binom wires size) jobs job ∷ start (binom wires size) jobs (suc job) ∷ []) in
-        let wrong = eqb jobs 0 || ltb maxJobs jobs || leb jobs job in
-        let same = passes wrong 19 ranks (from ∷ to ∷ []) (within (cond wrong (refusal 19) ranks) (from ∷ to ∷ []) (sym tells)) in
+        let same = own-told (job-chain wires size job jobs) (from ∷ to ∷ []) (sym tells) in
         numbers-gave _ _ _ _ tells (λ zero. (cc, cc))
 
     pub job-refused : (why : Refusal) (status : ℕ) → answer ≡ JobAnswer.Refused why → status ≡ refusalNumber why
@@ -86,9 +69,7 @@ module _ (wires : ℕ) (set : List ℕ) (answer : RankAnswer) (told : rankTold a
   pub rank-gave : (rank : ℕ) → answer ≡ RankAnswer.Rank rank → Numbers (rankFromSet wires set) (RankSays 0 rank wires set) 0 (rank ∷ []) (before ∷ [])
   rank-gave rank e =
       let tells = ap rankTold (sym e) ∙ told in
-      let wrong = not (rising set && below wires set) in
-      let place = values (rankOf wires set ∷ []) in
-      let same = passes wrong 21 place (rank ∷ []) (within wires (length set) (cond wrong (refusal 21) place) (rank ∷ []) (sym tells)) in
+      let same = own-told (rank-chain wires set) (rank ∷ []) (sym tells) in
       numbers-gave _ _ _ _ tells (λ zero. cc)
 
   pub rank-refused : (why : Refusal) (status : ℕ) → answer ≡ RankAnswer.Refused why → status ≡ refusalNumber why
@@ -101,39 +82,19 @@ module _ (wires size rank : ℕ) (buffer held : List ℕ) where
   abbrev lent : Lent
   lent = setFromRank wires size rank buffer
 
-  abbrev refuse : ℕ → Lent
-  refuse number = turnedDown number buffer
-
-  abbrev wrote : Lent
-  wrote = record { told = values []; held = setAt wires size rank ++ drop size buffer }
-
-  abbrev late : Lent
-  late = cond (leb (binom wires size) rank) (refuse 18) wrote
-
-  abbrev short : Lent
-  short = cond (ltb (length buffer) size) (refuse 16) late
-
   -- the set at a rank that is not refused has its size, so the buffer's first so many numbers are the set
   right : values [] ≡ lent .told → held ≡ lent .held → (take size held ≡ setAt wires size rank) × (drop size held ≡ drop size buffer)
   right told holds =
-      let tells : Lent → Told = λ a. a .told in
-      let a = test-passed refuse tells (λ k. refl) (ltb maxWires wires) 12 (cond (ltb maxSize size) (refuse 17) short) [] (sym told) in
-      let b = test-passed refuse tells (λ k. refl) (ltb maxSize size) 17 short [] (a .1) in
-      let c = test-passed refuse tells (λ k. refl) (ltb (length buffer) size) 16 late [] (b .1) in
-      let d = test-passed refuse tells (λ k. refl) (leb (binom wires size) rank) 18 wrote [] (c .1) in
-      let whole : lent ≡ wrote = simp (a .0, b .0, c .0, d .0) in
-      let long = isSet-parts wires size (setAt wires size rank) (set-at-is-set wires size rank (leb-false (binom wires size) rank (d .0))) .0 in
+      let none = set-settled wires size rank buffer .settles .answered .0 ([], sym told) in
+      let counted : binom wires size ≤ rank → ⊥ = none .1 .1 .1 .0 in
+      let long = isSet-parts wires size (setAt wires size rank) (set-at-is-set wires size rank (omega arith)) .0 in
       let same : held ≡ written (setAt wires size rank) buffer =
-      holds ∙ ap (λ (a : Lent). a .held) whole ∙ ap (λ (n : ℕ). setAt wires size rank ++ drop n buffer) (sym long) in
+      holds ∙ ap (λ (a : Lent). a .held) (set-chain wires size rank buffer .none none)
+      ∙ ap (λ (n : ℕ). setAt wires size rank ++ drop n buffer) (sym long) in
       (written-front buffer size held (setAt wires size rank) (sym long) same, written-rest buffer size held (setAt wires size rank) (sym long) same)
 
   kept : (number : ℕ) → refusal number ≡ lent .told → held ≡ lent .held → held ≡ buffer
-  kept number told holds =
-      holds
-      ∙ test-kept buffer (ltb maxWires wires) 12 number (cond (ltb maxSize size) (refuse 17) short) (sym told)
-      (λ e. test-kept buffer (ltb maxSize size) 17 number short e
-      (λ e. test-kept buffer (ltb (length buffer) size) 16 number late e
-      (λ e. test-kept buffer (leb (binom wires size) rank) 18 number wrote e (λ e. absurd (values-refusal [] number e)))))
+  kept number told holds = holds ∙ set-settled wires size rank buffer .kept number (sym told)
 
   abbrev SetPromise : ℕ → Type 0
   SetPromise status =

@@ -10,10 +10,10 @@ use mathlib.Core.Bool.{Bool, true, false, cond}
 use mathlib.Core.List.{List, [], _∷_, _++_}
 use lib.ListN.{length, take, drop}
 use lib.Seq.{drop-append-seam}
-use lib.Dec.{ltb}
 use Rattle.limits.specs.Limits.{recordBytes}
-use Rattle.basics.specs.Told.{Lent, values, refusal, turnedDown}
-use Rattle.basics.proofs.Telling.{test-passed, test-kept, values-refusal}
+use Rattle.basics.specs.Told.{Lent, values, turnedDown}
+use Rattle.basics.specs.Conditions.{_when_, SettlesLent}
+use Rattle.basics.proofs.Conditions.{Chain, own, test, settles-lent, less}
 use Rattle.description.specs.declared.Refusal.{Refusal}
 use Rattle.description.specs.Listing.{recordsOf}
 use Rattle.description.specs.Run as run
@@ -167,28 +167,26 @@ module _ (text table : List ℕ) (wire : ℕ) where
 -- ---- the report
 
 module _ (text buffer held : List ℕ) where
-  abbrev longer : Bool
-  longer = ltb (length buffer) (length (report.report text))
-
   abbrev wrote : Lent
   wrote = record { told = values (length (report.report text) ∷ []); held = written (report.report text) buffer }
+
+  chain : Chain (λ n. turnedDown n buffer) wrote (16 when (length buffer < length (report.report text)) ∷ []) (report.reportText text buffer)
+  chain = test 16 (less (length buffer) (length (report.report text))) (own (λ n. turnedDown n buffer) wrote)
+
+  settled : SettlesLent (16 when (length buffer < length (report.report text)) ∷ []) buffer (report.reportText text buffer)
+  settled = settles-lent chain (length (report.report text) ∷ []) refl
 
   right : (size : ℕ) → report.reportTold (ReportAnswer.Written size) held ≡ report.reportText text buffer
       → (take size held ≡ report.report text) × (drop size held ≡ drop size buffer)
   right size e =
-      let t = test-passed (λ number. turnedDown number buffer) (λ (a : Lent). a .told) (λ k. refl) longer 16 wrote (size ∷ [])
-      (sym (ap (λ (a : Lent). a .told) e)) in
-      let whole : report.reportText text buffer ≡ wrote = simp (t .0) in
-      let told = t .1 in
+      let whole = e ∙ chain .none (settled .settles .answered .0 (size ∷ [], sym (ap (λ (a : Lent). a .told) e))) in
+      let told = ap (λ (a : Lent). a .told) whole in
       let long : size ≡ length (report.report text) = cc in
-      let same : held ≡ written (report.report text) buffer = ap (λ (a : Lent). a .held) e ∙ ap (λ (a : Lent). a .held) whole in
+      let same : held ≡ written (report.report text) buffer = ap (λ (a : Lent). a .held) whole in
       (written-front buffer size held (report.report text) long same, written-rest buffer size held (report.report text) long same)
 
   kept : (why : report-refusal.Refusal) → report.reportTold (ReportAnswer.Refused why) held ≡ report.reportText text buffer → held ≡ buffer
-  kept why e =
-      ap (λ (a : Lent). a .held) e
-      ∙ test-kept buffer longer 16 (report.refusalNumber why) wrote (sym (ap (λ (a : Lent). a .told) e))
-      (λ f. absurd (values-refusal _ (report.refusalNumber why) f))
+  kept why e = ap (λ (a : Lent). a .held) e ∙ settled .kept (report.refusalNumber why) (sym (ap (λ (a : Lent). a .told) e))
 
   abbrev ReportPromise : ℕ → ℕ → ℕ → Type 0
   ReportPromise status size before =

@@ -18,7 +18,7 @@ use Rattle.records.specs.Layout.{decode, kindOf, offsetOf, lengthOf, recordAt, 
 use Rattle.records.proofs.Bytes.{wires-none, wires-more}
 use Rattle.records.proofs.Encoding.{kind-low}
 use Rattle.table.specs.Answers.{tableCheck}
-use Rattle.table.proofs.Entries.{Sound, accepted-exactly}
+use Rattle.table.proofs.Conditions.{Sound, accepted-exactly}
 use Rattle.description.specs.Listing.{encode, recordsOf, wireOf}
 use Rattle.description.specs.Grammar.{Description, Spells, Limits, wiresOf, maskCount}
 use Rattle.description.specs.declared.Listed.{Listed}

@@ -9,19 +9,17 @@ use Prim.Native.Nat.{ℕ, _+_, _*_, _%_, _≤_, _<_}
 use native.Mathlib.Omega.{arith}
 use mathlib.Core.Path.{_≡_, refl, sym, _∙_, ap₂}
 use mathlib.Core.Logic.{_↔_}
-use mathlib.Core.Bool.{Bool, false, cond, not}
 use mathlib.Core.List.{List, [], _∷_}
-use borrow.Author.Tests.{eq-eqb, eqb-true, le-ltb, ltb-false, lt-leb, leb-false, not-false}
-use lib.Dec.{eqb, ltb, leb}
 use lib.ListN.{length, take, drop, getD}
 use Rattle.limits.specs.Limits.{recordBytes, maxTableBytes}
 use Rattle.basics.specs.Told.{values, refusal}
-use Rattle.basics.proofs.Tests.{or-none}
-use Rattle.basics.proofs.Telling.{values-refusal, test-passed, test-carried}
 use Rattle.records.specs.Layout.{field, recordAt, wireCount, offsetOf, lengthOf}
 use Rattle.records.proofs.Fields.{two-bytes, field-at, record-inside}
 use Rattle.records.proofs.Bytes.{Bytes}
-use Rattle.table.specs.Answers.{wrongLength}
+use Rattle.basics.proofs.Conditions.{Chain}
+use Rattle.table.proofs.Conditions.{length-exactly}
+use Rattle.reader.specs.Conditions.{partConditions}
+use Rattle.reader.proofs.Conditions.{part-chain, part-settled}
 use Rattle.reader.specs.Answers.{partRefusalNumber, partChecked, partCheck, textPart, partStart}
 use Rattle.reader.specs.declared.PartRefusal.{PartRefusal}
 
@@ -52,76 +50,39 @@ module _ (text table : List ℕ) (wire : ℕ) where
   abbrev long : ℕ
   long = lengthOf (recordAt table wire)
 
-  abbrev beyond : Bool
-  beyond = leb (wireCount table) wire
-
-  abbrev outside : Bool
-  outside = ltb (length text) (at + long)
-
-  record Passed (offset size : ℕ) : Type 0 where
-    right-length : wrongLength table ≡ false
-    right-wire : beyond ≡ false
-    right-place : outside ≡ false
-    tells : values (at ∷ long ∷ []) ≡ values (offset ∷ size ∷ [])
-
-  passed : (offset size : ℕ) → partCheck text table wire ≡ values (offset ∷ size ∷ []) → Passed offset size
-  passed offset size e =
-      let l = offset ∷ size ∷ [] in
-      let third = cond outside (refusal 22) (values (at ∷ long ∷ [])) in
-      let a = test-passed refusal (λ t. t) (λ k. refl) (wrongLength table) 12 (cond beyond (refusal 21) third) l e in
-      let b = test-passed refusal (λ t. t) (λ k. refl) beyond 21 third l (a .1) in
-      let c = test-passed refusal (λ t. t) (λ k. refl) outside 22 (values (at ∷ long ∷ [])) l (b .1) in
-      record { right-length = a .0; right-wire = b .0; right-place = c .0; tells = c .1 }
-
   pub part-exactly : (offset size : ℕ) → (partCheck text table wire ≡ values (offset ∷ size ∷ [])) ↔ PartStands text table wire offset size
   part-exactly offset size = (there, back)
     where
+      chain : Chain refusal (values (at ∷ long ∷ [])) (partConditions text table wire) (partCheck text table wire)
+      chain = part-chain text table wire refusal (λ offset size. values (offset ∷ size ∷ []))
+
       there : partCheck text table wire ≡ values (offset ∷ size ∷ []) → PartStands text table wire offset size
       there e =
-          let h = passed offset size e in
-          let lengths = or-none (not (eqb (length table % recordBytes) 0)) (ltb maxTableBytes (length table)) (h .right-length) in
-          let told = h .tells in
+          let none = part-settled text table wire .answered .0 (offset ∷ size ∷ [], e) in
+          let right = length-exactly table .0 (none .0) in
+          let known : wireCount table ≤ wire → ⊥ = none .1 .0 in
+          let inside : length text < at + long → ⊥ = none .1 .1 .0 in
+          let told = chain .none none in
           let o : offset ≡ at = cc in
           let s : size ≡ long = cc in
-          record {
-            whole = eqb-true (length table % recordBytes) 0 (not-false (eqb (length table % recordBytes) 0) (lengths .0));
-            short = ltb-false maxTableBytes (length table) (lengths .1);
-            known = leb-false (wireCount table) wire (h .right-wire);
-            same-offset = o;
-            same-size = s;
-            inside = omega (arith, o, s, ltb-false (length text) (at + long) (h .right-place));
-          }
+          record { whole = right .0; short = right .1; known = omega arith; same-offset = o; same-size = s; inside = omega arith }
 
       back : PartStands text table wire offset size → partCheck text table wire ≡ values (offset ∷ size ∷ [])
       back h =
-          let accepts : partCheck text table wire ≡ values (at ∷ long ∷ []) =
-          simp (
-            eq-eqb (length table % recordBytes) 0 (h .whole),
-            le-ltb maxTableBytes (length table) (h .short),
-            lt-leb (wireCount table) wire (h .known),
-            le-ltb (length text) (at + long) (omega (arith, h .same-offset, h .same-size, h .inside)),
-          ) in
-          accepts ∙ ap₂ (λ (o s : ℕ). values (o ∷ s ∷ [])) (sym (h .same-offset)) (sym (h .same-size))
+          chain .none (length-exactly table .1 (h .whole, h .short), (λ l. omega arith, (λ l. omega arith, tt)))
+          ∙ ap₂ (λ (o s : ℕ). values (o ∷ s ∷ [])) (sym (h .same-offset)) (sym (h .same-size))
 
   -- what is made of the same tests by another answer
   module _ {A : Type 0} (refuse : ℕ → A) (part : ℕ → ℕ → A) where
     pub part-refused : (number : ℕ) → partCheck text table wire ≡ refusal number → partChecked refuse part text table wire ≡ refuse number
-    part-refused number e =
-        let told = values (at ∷ long ∷ []) in
-        let third = cond outside (refuse 22) (part at long) in
-        let told-third = cond outside (refusal 22) told in
-        test-carried refuse (wrongLength table) 12 number (cond beyond (refusal 21) told-third) (cond beyond (refuse 21) third) (sym e)
-        (λ f. test-carried refuse beyond 21 number told-third third f
-        (λ g. test-carried refuse outside 22 number told (part at long) g
-        (λ values-told. absurd (values-refusal (at ∷ long ∷ []) number (sym values-told)))))
+    part-refused number e = part-chain text table wire refuse part .first number (part-settled text table wire .refused number .0 e)
 
     pub part-given : (offset size : ℕ) → partCheck text table wire ≡ values (offset ∷ size ∷ [])
         → partChecked refuse part text table wire ≡ part offset size
     part-given offset size e =
-        let h = passed offset size e in
         let s = part-exactly offset size .0 e in
-        let there : partChecked refuse part text table wire ≡ part at long = simp (h .right-length, h .right-wire, h .right-place) in
-        there ∙ ap₂ part (sym (s .same-offset)) (sym (s .same-size))
+        part-chain text table wire refuse part .none (part-settled text table wire .answered .0 (offset ∷ size ∷ [], e))
+        ∙ ap₂ part (sym (s .same-offset)) (sym (s .same-size))
 
   pub part-told : ((number : ℕ) → partCheck text table wire ≡ refusal number → textPart text table wire ≡ [])
       × ((offset size : ℕ) → partCheck text table wire ≡ values (offset ∷ size ∷ []) → textPart text table wire ≡ take size (drop offset text))

@@ -18,7 +18,7 @@ use Prim.Native.Nat.{ℕ, suc, _+_, _*_, _≤_, _<_}
 use native.Mathlib.Decide.{decLt}
 use native.Mathlib.Omega.{arith}
 use mathlib.Core.Path.{_≡_, refl, sym, _∙_, ap, ap₂, subst}
-use mathlib.Core.Logic.{_↔_, _⊎_, inl, inr}
+use mathlib.Core.Logic.{_↔_, _⊎_, inl, inr, ⊎-elim}
 use mathlib.Core.Bool.{Bool, true, false, cond, not, _&&_, _||_, xor, true≢false, false≢true}
 use mathlib.Core.List.{List, [], _∷_, _++_, map}
 use lib.Dec.{ltb, leb, eqb}
@@ -31,7 +31,7 @@ use Rattle.basics.specs.Quoted.{bytes}
 use Rattle.basics.specs.Told.{Lent, values, refusal}
 use Rattle.basics.proofs.Tests.{or-left, xor-false, false-xor, xor-self}
 use Rattle.basics.proofs.Folds.{fold-pick}
-use Rattle.basics.proofs.Telling.{values-refusal}
+use Rattle.basics.proofs.Conditions.{values-refusal}
 use Rattle.wires.specs.Wires.{Wire, Input, breaks}
 use Rattle.wires.specs.Function.{operand, functionOf, AddUpTo, computes}
 use Rattle.wires.proofs.Function.{computes-exactly}
@@ -40,14 +40,15 @@ use Rattle.watcher.proofs.Choice.{choice}
 use Rattle.records.specs.Layout.{wireAt, wireCount, wires}
 use Rattle.revolving.specs.Order.{rankOf}
 use Rattle.table.specs.Answers.{tableCheck, functionCheck}
-use Rattle.table.proofs.Entries.{accepted, accepted-exactly, tested-answer}
+use Rattle.table.proofs.Conditions.{accepted-exactly, tested-answer}
 use Rattle.search.specs.Search.{searched, isBreaking}
 use Rattle.verdict.specs.Answers.{notionOf, written, firstShown, verdictOf}
 use Rattle.verdict.specs.Guarantee.{Watched, HasChoice}
 use Rattle.verdict.specs.First.{NotAfter, FirstBreaking}
 use Rattle.verdict.proofs.Watching.{pick-watched, all-choose, shown-none}
 use Rattle.verdict.proofs.First.{first-is}
-use Rattle.verdict.proofs.Accepting.{verdict-answered, verdict-ordered, verdict-accepts}
+use Rattle.verdict.specs.Jobs.{Ordered}
+use Rattle.verdict.proofs.Conditions.{verdict-ordered, verdict-answered}
 use Rattle.description.specs.declared.Listed.{Listed}
 use Rattle.description.specs.declared.Refusal.{Refusal}
 use Rattle.description.specs.Listing.{recordsOf}
@@ -115,7 +116,7 @@ module _ (table : List ℕ) (shares masks : ℕ) (sound : values [] ≡ tableChe
   function-told : functionCheck table shares masks function ≡ values (oneIf (computes function shares masks (wires table)) ∷ [])
   function-told =
       let answer = values (oneIf (computes function shares masks (wires table)) ∷ []) in
-      tested-answer table shares masks refusal (cond (not (leb 1 function && leb function 3)) (refusal 20) answer) (accepted table shares masks sound)
+      tested-answer table shares masks refusal (cond (not (leb 1 function && leb function 3)) (refusal 20) answer) (accepted-exactly table shares masks .0 sound)
       ∙ simp (le-leb 1 function low, le-leb function 3 high)
 
   yes-exactly : (saysYes (functionCheck table shares masks function) ≡ true) ↔ AddUpTo function shares masks (wires table)
@@ -270,20 +271,25 @@ module _ (text : List ℕ) (d : Description) (spells : Spells text d) (limits : 
       (computed 3 (omega arith) (omega arith))
 
   module _ (notion : ℕ) (known : (notion ≡ 1) ⊎ (notion ≡ 2)) where
-    tells : (l : List ℕ) × (verdictOf (tableOf d) (sharesOf d) (masksOf d) notion (d .order) emptySet .told ≡ values l)
-    tells =
-        verdict-accepts (tableOf d) (sharesOf d) (masksOf d) notion (d .order) emptySet .1
-        (accepted-exactly (tableOf d) (sharesOf d) (masksOf d) .0 sound, known, spells .order-digit .0, omega arith, spells .order-digit .1)
+    ordered : Ordered (tableOf d) (sharesOf d) (masksOf d) notion (d .order) emptySet
+    ordered = record {
+      sound = sound;
+      known = λ wrong. ⊎-elim (wrong .0) (wrong .1) known;
+      low = spells .order-digit .0;
+      high = omega arith;
+      room = spells .order-digit .1;
+    }
 
     pub read-accepted : (k : ℕ) → verdictOf (tableOf d) (sharesOf d) (masksOf d) notion (d .order) emptySet .told ≡ refusal k → ⊥
-    read-accepted k e = values-refusal (tells .0) k (sym (tells .1) ∙ e)
+    read-accepted k e =
+        let tells = verdict-ordered (tableOf d) (sharesOf d) (masksOf d) notion (d .order) emptySet .1 ordered in
+        values-refusal (tells .0) k (sym (tells .1) ∙ e)
 
     says-notion : SaysNotion d notion (notionLine (tableOf d) (sharesOf d) (masksOf d) notion (d .order))
     unfolding notionLine
     says-notion =
         subst (λ (lent : Lent). SaysNotion d notion (notionName notion ++ verdictSaid lent ++ bytes "\n"))
-        (sym (verdict-answered (tableOf d) (sharesOf d) (masksOf d) notion (d .order) emptySet
-        (verdict-ordered (tableOf d) (sharesOf d) (masksOf d) notion (d .order) emptySet .0 tells)))
+        (sym (verdict-answered (tableOf d) (sharesOf d) (masksOf d) notion (d .order) emptySet ordered))
         (by-sets found refl)
       where
         found : List (List ℕ)

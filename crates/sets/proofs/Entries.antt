@@ -4,23 +4,23 @@
 --     told-once       every set is visited by exactly one job that `job` tells, at exactly one rank for which `set_from_rank` writes it
 --     rank-and-set    `rank_from_set` tells r of s exactly when `set_from_rank` writes s for r
 use Prim.Native.Nat.{ℕ, suc, _≤_, _<_}
-use native.Mathlib.Decide.{decLt}
 use native.Mathlib.Omega.{arith}
 use mathlib.Core.Path.{_≡_, refl, sym, _∙_, ap, subst}
-use mathlib.Core.Logic.{_↔_}
-use mathlib.Core.Bool.{Bool, true, false, _&&_}
+use mathlib.Core.Logic.{_↔_, inr}
+use mathlib.Core.Bool.{Bool, true, false, not, _&&_}
 use mathlib.Core.List.{List, [], _∷_, _++_, append-nil}
-use borrow.Author.Tests.{le-ltb, le-leb, lt-leb, ne-eqb}
+use borrow.Author.Tests.{le-ltb, lt-leb, ne-eqb}
 use lib.Dec.{eqb}
 use lib.ListN.{length, drop, replicate, length-replicate, drop-of-length-le}
 use Rattle.limits.specs.Limits.{maxWires, maxSize}
-use Rattle.basics.specs.Told.{Lent, values, refusal}
+use Rattle.basics.specs.Told.{Lent, values}
 use Rattle.counts.specs.Counts.{binom}
 use Rattle.basics.proofs.Tests.{and-right}
-use Rattle.basics.proofs.Telling.{values-refusal}
+use Rattle.basics.proofs.Conditions.{own-told, not-both}
+use Rattle.sets.proofs.Conditions.{rising-fails, below-fails, job-chain, job-settled, set-settled, rank-settled}
 use Rattle.revolving.specs.Order.{revolving, setAt, rankOf, rising, below, isSet}
 use Rattle.sets.specs.Division.{start, HasRank, ExactlyOne}
-use Rattle.sets.specs.Answers.{maxJobs, setCount, setFromRank, rankFromSet, jobRanks}
+use Rattle.sets.specs.Answers.{setCount, jobRanks}
 use Rattle.sets.specs.Visits.{JobTells, SetTells, RankTells}
 use Rattle.revolving.proofs.Rising.{isSet-parts, parts-isSet}
 use Rattle.revolving.proofs.Revolving.{revolving-length, set-at-is-set, set-of-rank, rank-unique}
@@ -34,31 +34,22 @@ module _ (n k jobs : ℕ) (a : n ≤ maxWires) (b : k ≤ maxSize) (some : 0 < j
   pub job-told : (i : ℕ) → i < jobs → jobRanks n k i jobs ≡ values (start (binom n k) jobs i ∷ start (binom n k) jobs (suc i) ∷ [])
   job-told i d = simp (le-ltb maxWires n a, le-ltb maxSize k b, ne-eqb jobs 0 (omega arith), le-ltb maxJobs jobs c, lt-leb jobs i d)
 
-  job-refused : (i : ℕ) → jobs ≤ i → jobRanks n k i jobs ≡ refusal 19
-  job-refused i d = simp (le-ltb maxWires n a, le-ltb maxSize k b, ne-eqb jobs 0 (omega arith), le-ltb maxJobs jobs c, le-leb jobs i d)
-
   has-told : (i r : ℕ) → HasRank (binom n k) jobs i r → JobTells n k jobs i r
   has-told i r h = record { from = start (binom n k) jobs i; to = start (binom n k) jobs (suc i); told = job-told i (h .inside); low = h .from; high = h .to }
 
   told-has : (i r : ℕ) → JobTells n k jobs i r → HasRank (binom n k) jobs i r
-  told-has i r t = go (decLt i jobs)
-    where
-      go : Dec (i < jobs) → HasRank (binom n k) jobs i r
-      go (yes d) =
-          let p = t .told in
-          let q = job-told i d in
-          let e : t .from ≡ start (binom n k) jobs i = cc in
-          let f : t .to ≡ start (binom n k) jobs (suc i) = cc in
-          record { inside = d; from = omega (arith, t .low); to = omega (arith, t .high) }
-      go (no d) = absurd (values-refusal (t .from ∷ t .to ∷ []) 19 (sym (t .told) ∙ job-refused i (omega arith)))
+  told-has i r t =
+      let none = job-settled n k i jobs .answered .0 (t .from ∷ t .to ∷ [], t .told) in
+      let late : jobs ≤ i → ⊥ = λ h. none .1 .1 .0 (inr (inr h)) in
+      let same = own-told (job-chain n k i jobs) (t .from ∷ t .to ∷ []) (t .told) in
+      let e : t .from ≡ start (binom n k) jobs i = cc in
+      let f : t .to ≡ start (binom n k) jobs (suc i) = cc in
+      record { inside = omega arith; from = omega (arith, t .low); to = omega (arith, t .high) }
 
 -- the set of a rank, as told
 module _ (n k : ℕ) (a : n ≤ maxWires) (b : k ≤ maxSize) where
   pub at-told : (r : ℕ) → r < binom n k → SetTells n k r (setAt n k r)
   at-told r h buffer room = simp (le-ltb maxWires n a, le-ltb maxSize k b, le-ltb (length buffer) k room, lt-leb (binom n k) r h)
-
-  at-refused : (r : ℕ) → binom n k ≤ r → (buffer : List ℕ) → k ≤ length buffer → setFromRank n k r buffer ≡ record { told = refusal 18; held = buffer }
-  at-refused r h buffer room = simp (le-ltb maxWires n a, le-ltb maxSize k b, le-ltb (length buffer) k room, le-leb (binom n k) r h)
 
   -- a buffer that the set fills
   abbrev filled : List ℕ
@@ -68,13 +59,10 @@ module _ (n k : ℕ) (a : n ≤ maxWires) (b : k ≤ maxSize) where
   room = omega (arith, length-replicate {A = ℕ} k 0)
 
   told-counted : (r : ℕ) (s : List ℕ) → SetTells n k r s → r < binom n k
-  told-counted r s t = go (decLt r (binom n k))
-    where
-      go : Dec (r < binom n k) → r < binom n k
-      go (yes h) = h
-      go (no h) =
-          let e = sym (t filled room) ∙ at-refused r (omega arith) filled room in
-          absurd (values-refusal [] 18 (ap (λ (l : Lent). l .told) e))
+  told-counted r s t =
+      let none = set-settled n k r filled .settles .answered .0 ([], ap (λ (l : Lent). l .told) (t filled room)) in
+      let late : binom n k ≤ r → ⊥ = none .1 .1 .1 .0 in
+      omega arith
 
   told-at : (r : ℕ) (s : List ℕ) → SetTells n k r s → setAt n k r ≡ s
   told-at r s t =
@@ -99,15 +87,12 @@ module _ (n : ℕ) (s : List ℕ) (a : n ≤ maxWires) (b : length s ≤ maxSize
   rank-told : (rising s && below n s) ≡ true → RankTells n s (rankOf n s)
   rank-told e = simp (le-ltb maxWires n a, le-ltb maxSize (length s) b, e)
 
-  rank-refused : (rising s && below n s) ≡ false → rankFromSet n s ≡ refusal 21
-  rank-refused e = simp (le-ltb maxWires n a, le-ltb maxSize (length s) b, e)
-
   told-rising : (r : ℕ) → RankTells n s r → (rising s && below n s) ≡ true
   told-rising r t = go (rising s && below n s) refl
     where
       go : (c : Bool) → (rising s && below n s) ≡ c → (rising s && below n s) ≡ true
       go true e = e
-      go false e = absurd (values-refusal (r ∷ []) 21 (sym t ∙ rank-refused e))
+      go false e = absurd (rank-settled n s .answered .0 (r ∷ [], t) .1 .1 .0 (not-both (rising-fails s) (below-fails n s) .0 (ap not e)))
 
 pub rank-and-set : (n k r : ℕ) (s : List ℕ) → n ≤ maxWires → k ≤ maxSize → ((length s ≡ k) × RankTells n s r) ↔ SetTells n k r s
 rank-and-set n k r s a b = (there, back)

@@ -1,13 +1,6 @@
 -- What the tests of a table give to the operations that come after them, and what the function check tells.
---     Accepted                     a table, a number of shares and one of masks that pass the tests
---     Sound, accepted-exactly      what the tests let through, in the scope's words
 --     records-decide               where the numbers and the length are right, the records decide
---     tested-passed, accepted      where an operation tells values, the tests passed, and its own answer tells them
---     tested-answer                where the tests pass, the operation's own answer stands
---     tested-carried, tested-refusal     where a refusal is told, an answer of another kind carries it; where it is the tests', it stands
---     tested-kept                  a refusal leaves the buffer as it was
---     shares-low, shares-high, masks-high       the limits of an accepted table
---     wire-within, set-within, table-within     an accepted record has no bit beyond shares and masks
+--     set-within, table-within     the records of a sound table have no bit beyond shares and masks
 --     set-decided                  the breaking test over all bits of a record is that over the gadget's shares and masks
 --     function-decided             what the code compares decides the function
 --     function-means               what yes and no say of values follows from the equation
@@ -17,54 +10,32 @@ use Prim.Native.Nat.{ℕ, _%_, _≤_, _<_}
 use native.Mathlib.Nat.{le-trans}
 use native.Mathlib.Omega.{arith}
 use mathlib.Core.Path.{_≡_, refl, sym, _∙_, ap, ap₂}
-use mathlib.Core.Logic.{_↔_, _⊎_, inl, inr}
-use mathlib.Core.Bool.{Bool, true, false, cond, not, _&&_, _||_, xor, true≢false, and-false, and-true}
+use mathlib.Core.Logic.{_⊎_, inl, inr}
+use mathlib.Core.Bool.{Bool, true, false, cond, not, _&&_, xor, true≢false, and-false, and-true}
 use mathlib.Core.List.{List, [], _∷_, map}
-use borrow.Author.Tests.{le-leb, lt-leb, ltb-false, le-ltb, lt-ltb, ltb-true, eq-eqb, eqb-true, not-false}
+use borrow.Author.Tests.{le-leb, lt-leb, le-ltb, lt-ltb, ltb-true, eq-eqb}
 use lib.ListN.{length}
-use lib.Dec.{ltb, leb, eqb}
+use lib.Dec.{ltb, leb}
 use Rattle.limits.specs.Limits.{minShares, maxShares, maxMasks, recordBytes, maxTableBytes}
 use Rattle.basics.specs.Folds.{some, every, keep, oneIf, upTo}
-use Rattle.basics.specs.Told.{Told, Lent, values, refusal, turnedDown}
-use Rattle.basics.proofs.Tests.{and-left, and-right, or-none, bool-ext}
-use Rattle.basics.proofs.Folds.{never, none-below, every-below}
-use Rattle.basics.proofs.Telling.{values-refusal, test-passed, test-carried, test-kept}
+use Rattle.basics.specs.Told.{Told, values, refusal}
+use Rattle.basics.proofs.Tests.{and-left, and-right, bool-ext}
+use Rattle.basics.proofs.Folds.{every-below}
 use Rattle.wires.specs.declared.Notion.{Notion}
-use Rattle.wires.specs.Wires.{Terms, Wire, plus, total, breaks, beyond}
+use Rattle.wires.specs.Wires.{Terms, Wire, plus, total, breaks}
 use Rattle.wires.specs.Function.{functionTerms, outers, blank, computes}
 use Rattle.wires.proofs.Dependence.{blank-bits, bits-blank}
 use Rattle.wires.proofs.Function.{computes-exactly}
-use Rattle.wires.proofs.Narrow.{Within, AllWithin, within, not-beyond, within-plus, within-total, breaks-narrow, blank-narrow}
-use Rattle.records.specs.Layout.{kindOf, recordAt, wireAt, wireCount, wires, inside}
+use Rattle.wires.proofs.Narrow.{Within, AllWithin, within-plus, within-total, breaks-narrow, blank-narrow}
+use Rattle.records.specs.Layout.{recordAt, wireAt, wireCount, wires, inside}
 use Rattle.records.specs.Cut.{FirstShares}
+use Rattle.table.proofs.Conditions.{Sound, accepted-exactly, tested-answer, tested-refusal, function-chain, function-settled}
 use Rattle.table.specs.declared.Refusal.{Refusal}
 use Rattle.table.specs.declared.Refusal.the-variants.{NoSuchFunction}
 use Rattle.table.specs.declared.FunctionAnswer.{FunctionAnswer}
-use Rattle.table.specs.Answers.{refusalNumber, functionTold, wrongShares, wrongLength, wrongRecord, tested, tableCheck, functionCheck, FunctionMeans}
-
-pub record Accepted (table : List ℕ) (shares masks : ℕ) : Type 0 where
-  pub goodShares : wrongShares shares masks ≡ false
-  pub goodLength : wrongLength table ≡ false
-  pub goodRecords : some (λ w. wrongRecord shares masks (recordAt table w)) (upTo (wireCount table)) ≡ false
-
--- ---- the tests, then the answer
+use Rattle.table.specs.Answers.{refusalNumber, functionTold, wrongRecord, tableCheck, functionCheck, FunctionMeans}
 
 module _ (table : List ℕ) (shares masks : ℕ) where
-  abbrev bad : Bool
-  bad = some (λ w. wrongRecord shares masks (recordAt table w)) (upTo (wireCount table))
-
-  pub tested-passed : {A : Type 0} (refuse : ℕ → A) (tells : A → Told) → ((k : ℕ) → tells (refuse k) ≡ refusal k) → (answer : A) (l : List ℕ)
-      → tells (tested refuse table shares masks answer) ≡ values l → Accepted table shares masks × (tells answer ≡ values l)
-  tested-passed refuse tells refuses answer l e =
-      let third = cond bad (refuse 13) answer in
-      let a = test-passed refuse tells refuses (wrongShares shares masks) 11 (cond (wrongLength table) (refuse 12) third) l e in
-      let b = test-passed refuse tells refuses (wrongLength table) 12 third l (a .1) in
-      let c = test-passed refuse tells refuses bad 13 answer l (b .1) in
-      (record { goodShares = a .0; goodLength = b .0; goodRecords = c .0 }, c .1)
-
-  pub accepted : values [] ≡ tableCheck table shares masks → Accepted table shares masks
-  accepted e = tested-passed refusal (λ t. t) (λ k. refl) (values []) [] (sym e) .0
-
   -- the records alone decide where the numbers and the length are right
   pub records-decide : (b : Bool) → minShares ≤ shares → shares ≤ maxShares → masks ≤ maxMasks → length table % recordBytes ≡ 0 → length table ≤ maxTableBytes
       → not b ≡ not (some (λ w. wrongRecord shares masks (recordAt table w)) (upTo (wireCount table)))
@@ -81,71 +52,14 @@ module _ (table : List ℕ) (shares masks : ℕ) where
       same-not false true e = sym e
       same-not false false e = refl
 
-  pub tested-answer : {A : Type 0} (refuse : ℕ → A) (answer : A) → Accepted table shares masks → tested refuse table shares masks answer ≡ answer
-  tested-answer refuse answer h = simp (h .goodShares, h .goodLength, h .goodRecords)
-
-  pub tested-carried : {A : Type 0} (refuse : ℕ → A) (answer : A) (told : Told) (k : ℕ) → refusal k ≡ tested refusal table shares masks told
-      → (refusal k ≡ told → answer ≡ refuse k) → tested refuse table shares masks answer ≡ refuse k
-  tested-carried refuse answer told k e h =
-      let third = cond bad (refuse 13) answer in
-      let told-third = cond bad (refusal 13) told in
-      test-carried refuse (wrongShares shares masks) 11 k (cond (wrongLength table) (refusal 12) told-third)
-      (cond (wrongLength table) (refuse 12) third) e
-      (λ f. test-carried refuse (wrongLength table) 12 k told-third third f (λ g. test-carried refuse bad 13 k told answer g h))
-
-  pub tested-refusal : {A : Type 0} (refuse : ℕ → A) (answer : A) (k : ℕ) → refusal k ≡ tableCheck table shares masks
-      → tested refuse table shares masks answer ≡ refuse k
-  tested-refusal refuse answer k e = tested-carried refuse answer (values []) k e (λ f. absurd (values-refusal [] k (sym f)))
-
-  pub tested-kept : (buffer : List ℕ) (answer : Lent) (k : ℕ) → tested (λ number. turnedDown number buffer) table shares masks answer .told
-      ≡ refusal k
-      → (answer .told ≡ refusal k → answer .held ≡ buffer) → tested (λ number. turnedDown number buffer) table shares masks answer .held ≡ buffer
-  tested-kept buffer answer k e h =
-      let third = cond bad (turnedDown 13 buffer) answer in
-      test-kept buffer (wrongShares shares masks) 11 k (cond (wrongLength table) (turnedDown 12 buffer) third) e
-      (λ f. test-kept buffer (wrongLength table) 12 k third f (λ g. test-kept buffer bad 13 k answer g h))
-
--- ---- what the tests say
-
--- shares 2 to 8, masks up to 64; a multiple of 24 bytes, up to 12,288; in every record no bit beyond shares and masks, and byte 18 at most 1
-pub record Sound (table : List ℕ) (shares masks : ℕ) : Type 0 where
-  pub low : minShares ≤ shares
-  pub high : shares ≤ maxShares
-  pub few : masks ≤ maxMasks
-  pub whole : length table % recordBytes ≡ 0
-  pub short : length table ≤ maxTableBytes
-  pub bits : (w : ℕ) → w < wireCount table → Within maxShares maxMasks shares masks (wireAt table w .terms)
-  pub flag : (w : ℕ) → w < wireCount table → kindOf (recordAt table w) ≤ 1
-
 -- ---- no bit beyond
 
-module _ (table : List ℕ) (shares masks : ℕ) (h : Accepted table shares masks) where
-  parts : (ltb shares minShares ≡ false) × (ltb maxShares shares ≡ false) × (ltb maxMasks masks ≡ false)
-  parts =
-      let a = or-none (ltb shares minShares || ltb maxShares shares) (ltb maxMasks masks) (h .goodShares) in
-      let b = or-none (ltb shares minShares) (ltb maxShares shares) (a .0) in
-      (b .0, b .1, a .1)
-
-  pub shares-low : minShares ≤ shares
-  shares-low = ltb-false shares minShares (parts .0)
-
-  pub shares-high : shares ≤ maxShares
-  shares-high = ltb-false maxShares shares (parts .1)
-
-  pub masks-high : masks ≤ maxMasks
-  masks-high = ltb-false maxMasks masks (parts .2)
-
-  pub wire-within : (w : ℕ) → w < wireCount table → Within maxShares maxMasks shares masks (wireAt table w .terms)
-  wire-within w l =
-      let sound = never (wireCount table) w (λ w. wrongRecord shares masks (recordAt table w)) (h .goodRecords) l in
-      within maxShares maxMasks shares masks (wireAt table w .terms)
-      (or-none (beyond maxShares maxMasks shares masks (wireAt table w .terms)) (ltb 1 (kindOf (recordAt table w))) sound .0)
-
+module _ (table : List ℕ) (shares masks : ℕ) (h : Sound table shares masks) where
   all-within : (set : List ℕ) → every (λ w. ltb w (wireCount table)) set ≡ true → AllWithin maxShares maxMasks shares masks (map (wireAt table) set)
   all-within [] e = tt
   all-within (w ∷ set) e =
       let rest = every (λ w. ltb w (wireCount table)) set in (
-        wire-within w (ltb-true w (wireCount table) (and-left (ltb w (wireCount table)) rest e)),
+        h .bits w (ltb-true w (wireCount table) (and-left (ltb w (wireCount table)) rest e)),
         all-within set
             (and-right (ltb w (wireCount table)) rest e),
       )
@@ -160,39 +74,7 @@ module _ (table : List ℕ) (shares masks : ℕ) (h : Accepted table shares mask
 
   pub set-decided : (notion : Notion) (set : List ℕ) → inside table set ≡ true
       → breaks notion maxShares maxMasks (map (wireAt table) set) ≡ breaks notion shares masks (map (wireAt table) set)
-  set-decided notion set e = breaks-narrow maxShares maxMasks shares masks shares-high masks-high notion (map (wireAt table) set) (set-within set e)
-
--- the tests let through exactly what is sound
-pub accepted-exactly : (table : List ℕ) (shares masks : ℕ) → (values [] ≡ tableCheck table shares masks) ↔ Sound table shares masks
-accepted-exactly table shares masks = (there, back)
-  where
-    wrong : ℕ → Bool
-    wrong w = wrongRecord shares masks (recordAt table w)
-
-    there : values [] ≡ tableCheck table shares masks → Sound table shares masks
-    there e =
-        let h = accepted table shares masks e in
-        let lengths = or-none (not (eqb (length table % recordBytes) 0)) (ltb maxTableBytes (length table)) (h .goodLength) in
-        record {
-          low = shares-low table shares masks h;
-          high = shares-high table shares masks h;
-          few = masks-high table shares masks h;
-          whole = eqb-true (length table % recordBytes) 0 (not-false (eqb (length table % recordBytes) 0) (lengths .0));
-          short = ltb-false maxTableBytes (length table) (lengths .1);
-          bits = wire-within table shares masks h;
-          flag = λ w l. ltb-false 1 (kindOf (recordAt table w))
-              (or-none (beyond maxShares maxMasks shares masks (wireAt table w .terms)) (ltb 1 (kindOf (recordAt table w)))
-              (never (wireCount table) w wrong (h .goodRecords) l) .1);
-        }
-
-    none-wrong : Sound table shares masks → some wrong (upTo (wireCount table)) ≡ false
-    none-wrong h =
-        none-below (wireCount table) wrong
-        (λ w l. ap₂ (λ (x y : Bool). x || y) (not-beyond maxShares maxMasks shares masks (wireAt table w .terms) (h .bits w l))
-        (le-ltb 1 (kindOf (recordAt table w)) (h .flag w l)))
-
-    back : Sound table shares masks → values [] ≡ tableCheck table shares masks
-    back h = records-decide table shares masks false (h .low) (h .high) (h .few) (h .whole) (h .short) (sym (ap not (none-wrong h)))
+  set-decided notion set e = breaks-narrow maxShares maxMasks shares masks (h .high) (h .few) notion (map (wireAt table) set) (set-within set e)
 
 keep-within : (N M n m : ℕ) (f : Wire → Bool) (s : List Wire) → AllWithin N M n m s → AllWithin N M n m (keep f s)
 keep-within N M n m f [] h = tt
@@ -244,14 +126,14 @@ module _ (n m : ℕ) (small : n ≤ maxShares) (few : m ≤ maxMasks) (t u : Ter
       (λ j c. ap (xor (s .shareB j)) (first .ofB j (le-trans c small) ∙ ap (λ (z : Bool). t .shareB j && z) (lt-ltb j n c) ∙ and-true (t .shareB j)))
       (λ k c. ap (xor (s .mask k)) (first .masks k (le-trans c few)))
 
-pub function-decided : (table : List ℕ) (shares masks function : ℕ) (u : Terms) → Accepted table shares masks
+pub function-decided : (table : List ℕ) (shares masks function : ℕ) (u : Terms) → Sound table shares masks
     → FirstShares shares (functionTerms function) u
     → blank maxShares maxMasks (plus (total (outers (wires table))) u) ≡ computes function shares masks (wires table)
 unfolding computes
 function-decided table shares masks function u h first =
     let sum = total (outers (wires table)) in
-    let small = shares-high table shares masks h in
-    let few = masks-high table shares masks h in
+    let small = h .high in
+    let few = h .few in
     let sum-within =
     within-total maxShares maxMasks shares masks (outers (wires table))
     (keep-within maxShares maxMasks shares masks (λ w. w .outer) (wires table) (table-within table shares masks h)) in
@@ -259,17 +141,11 @@ function-decided table shares masks function u h first =
     (within-plus maxShares maxMasks shares masks sum u sum-within (cut-within shares masks small few (functionTerms function) u first (λ k. refl)))
     ∙ cut-same shares masks small few (functionTerms function) u first (λ k. refl) sum
 
--- what a yes or a no says of the test
-decided : (a b c d x k : Bool)
-    → cond a (refusal 11) (cond b (refusal 12) (cond c (refusal 13) (cond d (refusal 20) (values (oneIf x ∷ []))))) ≡ values (oneIf k ∷ []) → x ≡ k
-decided true b c d x k e = absurd (values-refusal (oneIf k ∷ []) 11 (sym e))
-decided false true c d x k e = absurd (values-refusal (oneIf k ∷ []) 12 (sym e))
-decided false false true d x k e = absurd (values-refusal (oneIf k ∷ []) 13 (sym e))
-decided false false false true x k e = absurd (values-refusal (oneIf k ∷ []) 20 (sym e))
-decided false false false false true true e = refl
-decided false false false false false false e = refl
-decided false false false false true false e = let z : _≡_ {A = ℕ} 1 0 = cc in absurd (omega (arith, z))
-decided false false false false false true e = let z : _≡_ {A = ℕ} 0 1 = cc in absurd (omega (arith, z))
+one-or-none : (x k : Bool) → values (oneIf x ∷ []) ≡ values (oneIf k ∷ []) → x ≡ k
+one-or-none true true e = refl
+one-or-none false false e = refl
+one-or-none true false e = let z : _≡_ {A = ℕ} 1 0 = cc in absurd (omega (arith, z))
+one-or-none false true e = let z : _≡_ {A = ℕ} 0 1 = cc in absurd (omega (arith, z))
 
 pub function-means : (answer : FunctionAnswer) (table : List ℕ) (shares masks function : ℕ)
     → functionTold answer ≡ functionCheck table shares masks function
@@ -277,8 +153,8 @@ pub function-means : (answer : FunctionAnswer) (table : List ℕ) (shares masks 
 function-means answer table shares masks function e =
     let test = computes function shares masks (wires table) in
     let told-is : (k : Bool) → functionTold answer ≡ values (oneIf k ∷ []) → test ≡ k = λ k f.
-    decided (wrongShares shares masks) (wrongLength table) (some (λ w. wrongRecord shares masks (recordAt table w)) (upTo (wireCount table)))
-    (not (leb 1 function && leb function 3)) test k (sym e ∙ f) in
+    let none = function-settled table shares masks function .answered .0 (oneIf k ∷ [], sym e ∙ f) in
+    one-or-none test k (sym (function-chain table shares masks function .none none) ∙ sym e ∙ f) in
     let exactly = computes-exactly function shares masks (wires table) in
     record {
       yes-means = λ f. exactly .0 (told-is true (ap functionTold f));
@@ -304,7 +180,7 @@ module _ (table : List ℕ) (shares masks function : ℕ) where
 
   module _ (ok : values [] ≡ tableCheck table shares masks) where
     own : functionCheck table shares masks function ≡ rest
-    own = tested-answer table shares masks refusal rest (accepted table shares masks ok)
+    own = tested-answer table shares masks refusal rest (accepted-exactly table shares masks .0 ok)
 
     pub function-low : function < 1 → Promise (FunctionAnswer.Refused NoSuchFunction) table shares masks function
     function-low h = promised (FunctionAnswer.Refused NoSuchFunction) (sym (own ∙ simp (lt-leb 1 function h)))
@@ -318,5 +194,5 @@ module _ (table : List ℕ) (shares masks function : ℕ) where
     answered answer x y s t u told l h es ft eu ex e =
         let c : y ≡ computes function shares masks (wires table) =
         sym e ∙ ex ∙ ap (blank maxShares maxMasks) (eu ∙ ap (λ (v : Terms). plus v t) es)
-        ∙ function-decided table shares masks function t (accepted table shares masks ok) ft in
+        ∙ function-decided table shares masks function t (accepted-exactly table shares masks .0 ok) ft in
         promised answer (told ∙ sym (own ∙ simp (le-leb 1 function l, le-leb function 3 h, c)))

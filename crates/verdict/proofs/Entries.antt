@@ -2,26 +2,25 @@
 --     searched-decided, stretch-decided     the code's test over all bits of a record finds the sets that the gadget's shares and masks give
 --     opened-for, short                     what the first tests say: the notion, and a table of at most 512 wires
 --     Promise, verdict-answer               the whole of a verdict's promise; its answer after the first tests
---     verdict-accepted                      where all tests pass the first breaking set decides
 --     before, order-low, order-high, no-room, found-none, found-set     the verdict's answers
 --     Passed, bytes, seven, size-within     all tests of a verdict passed: the table's bytes, the order and the size that was found are within limits
-use Prim.Native.Nat.{ℕ, suc, _-_, _%_, _≤_, _<_}
+use Prim.Native.Nat.{ℕ, suc, _-_, _≤_, _<_}
 use native.Mathlib.Omega.{arith}
 use mathlib.Core.Path.{_≡_, refl, sym, _∙_, ap, ap₂}
-use mathlib.Core.Bool.{Bool, true, false, cond, not, and-false}
+use mathlib.Core.Bool.{Bool, true, cond, and-false}
 use mathlib.Core.List.{List, [], _∷_, map}
-use borrow.Author.Tests.{le-leb, lt-leb, le-ltb, lt-ltb, ltb-false}
-use lib.Dec.{ltb, leb, eqb}
+use borrow.Author.Tests.{le-leb, lt-leb, le-ltb, lt-ltb}
+use lib.Dec.{ltb, leb}
 use lib.ListN.{length, take, drop}
 use lib.Seq.{take-at}
-use Rattle.limits.specs.Limits.{maxShares, maxMasks, recordBytes, maxTableBytes, maxSize}
+use Rattle.limits.specs.Limits.{maxShares, maxMasks, maxTableBytes, maxSize}
 use Rattle.basics.specs.Folds.{keep}
 use Rattle.basics.specs.Told.{Lent, values, turnedDown}
-use Rattle.basics.proofs.Tests.{or-none}
 use Rattle.wires.specs.declared.Notion.{Notion}
 use Rattle.wires.specs.Wires.{breaks}
 use Rattle.records.specs.Layout.{wireAt, wireCount}
-use Rattle.table.proofs.Entries.{Accepted, shares-high, set-decided}
+use Rattle.table.proofs.Conditions.{accepted-exactly}
+use Rattle.table.proofs.Entries.{set-decided}
 use Rattle.revolving.specs.Order.{revolving, setAt, isSet}
 use Rattle.revolving.proofs.Revolving.{revolving-length, set-at-is-set}
 use Rattle.verdict.specs.declared.Refusal.{Refusal}
@@ -29,8 +28,9 @@ use Rattle.verdict.specs.declared.Refusal.the-variants.{OrderOutOfRange,
 use Rattle.verdict.specs.declared.Opened.{Opened}
 use Rattle.verdict.specs.declared.VerdictAnswer.{VerdictAnswer}
 use Rattle.search.specs.Search.{searched, stretch, isBreaking, first, FirstSet}
-use Rattle.verdict.specs.Answers.{refusalNumber, verdictTold, wrongNotion, wrongOrder, notionOf, openedTold, opens, written, firstShown, verdictOf}
+use Rattle.verdict.specs.Answers.{refusalNumber, verdictTold, wrongOrder, notionOf, openedTold, opens, written, firstShown, verdictOf}
 use Rattle.verdict.specs.Guarantee.{Guarantee}
+use Rattle.verdict.proofs.Conditions.{verdict-answered}
 use Rattle.search.proofs.Keeping.{each-place, each-take, each-drop, keep-same}
 use Rattle.search.proofs.Turns.{set-inside}
 use Rattle.verdict.proofs.Admitting.{Opens, opens-notion, opened-answer, opened-refusal}
@@ -72,7 +72,7 @@ module _ (table : List ℕ) (shares masks notion : ℕ) (kind : Notion) (told : 
   opened-for = opens-notion table shares masks notion kind told
 
   pub short : length table ≤ maxTableBytes
-  short = ltb-false maxTableBytes (length table) (or-none (not (eqb (length table % recordBytes) 0)) (ltb maxTableBytes (length table)) (opened-for .sound .goodLength) .1)
+  short = opened-for .sound .short
 
 -- ---- the verdict
 
@@ -86,15 +86,6 @@ module _ (table : List ℕ) (shares masks notion order : ℕ) (buffer : List ℕ
       cond (wrongOrder shares order) (turnedDown 15 buffer)
       (cond (ltb (length buffer) order) (turnedDown 16 buffer)
       (firstShown (keep (isBreaking (notionOf notion) table shares masks) (searched (wireCount table) order)) buffer))
-
-  -- where all tests pass the first breaking set decides
-  pub verdict-accepted : Accepted table shares masks → wrongNotion notion ≡ false → 1 ≤ order → order < shares → order ≤ length buffer
-      → verdictOf table shares masks notion order buffer
-      ≡ firstShown (keep (isBreaking (notionOf notion) table shares masks) (searched (wireCount table) order)) buffer
-  verdict-accepted sound known low high room =
-      let shows : verdict-answer ≡ firstShown (keep (isBreaking (notionOf notion) table shares masks) (searched (wireCount table) order)) buffer =
-      simp (le-leb 1 order low, lt-ltb order shares high, le-ltb (length buffer) order room) in
-      opened-answer table shares masks notion (λ number. turnedDown number buffer) verdict-answer sound known ∙ shows
 
   pub before : (why : Refusal) → openedTold (Opened.Refused why) ≡ opens table shares masks notion
       → Promise (VerdictAnswer.Refused why) buffer table shares masks notion order buffer
@@ -136,7 +127,7 @@ module _ (table : List ℕ) (shares masks notion order : ℕ) (buffer : List ℕ
   bytes = short table shares masks notion kind (p .told)
 
   pub order-small : order ≤ maxSize
-  order-small = omega (arith, p .high, shares-high table shares masks (opened-for table shares masks notion kind (p .told) .sound))
+  order-small = omega (arith, p .high, opened-for table shares masks notion kind (p .told) .sound .high)
 
   module _ (size : ℕ) (probes : List ℕ) (search : FirstSet (isBreaking kind table maxShares maxMasks) (searched (wireCount table) order) size probes) where
     abbrev sets : List (List ℕ)
@@ -148,7 +139,13 @@ module _ (table : List ℕ) (shares masks notion order : ℕ) (buffer : List ℕ
     shows : firstShown sets buffer ≡ verdictOf table shares masks notion order buffer
     shows =
         let o = opened-for table shares masks notion kind (p .told) in
-        sym (verdict-accepted table shares masks notion order buffer (o .sound) (o .known) (p .low) (p .high) (p .room))
+        sym (verdict-answered table shares masks notion order buffer (record {
+          sound = accepted-exactly table shares masks .1 (o .sound);
+          known = o .known;
+          low = p .low;
+          high = p .high;
+          room = p .room;
+        }))
 
     long : size ≡ length (first sets)
     long = search .size-is ∙ ap (λ (l : List (List ℕ)). length (first l)) same

@@ -1,7 +1,7 @@
 -- Demand 2 on the answers themselves, from what they tell.
 --     verdict-finds      holds: no set to watch breaks; broken: the set shown is the first that does
 --     range-finds        clean: no set at a rank of the range breaks; found: the set written is the first that does, at the rank given
-use Prim.Native.Nat.{ℕ, _-_, _≤_, _<_}
+use Prim.Native.Nat.{ℕ, _≤_, _<_}
 use native.Mathlib.Omega.{arith}
 use mathlib.Core.Path.{_≡_, sym, _∙_, ap, subst}
 use mathlib.Core.List.{List, [], _∷_}
@@ -20,7 +20,8 @@ use Rattle.verdict.specs.Answers.{refusalNumber, verdictTold, rangeTold,
 use Rattle.verdict.specs.First.{FirstBreaking, FirstInRange, VerdictFinds, RangeFinds}
 use Rattle.verdict.specs.Jobs.{found, broken, Ordered, Asked}
 use Rattle.verdict.proofs.Watching.{all-whole}
-use Rattle.verdict.proofs.Accepting.{written-front, written-rest, shown-parts, ranked-parts, verdict-kept, range-kept, verdict-answered, range-answered, verdict-ordered, range-asked, shown-nil, ranked-nil}
+use Rattle.verdict.proofs.Accepting.{written-front, written-rest, shown-parts, ranked-parts, shown-nil, ranked-nil}
+use Rattle.verdict.proofs.Conditions.{verdict-settled, range-settled, verdict-answered, range-answered, verdict-ordered, range-asked}
 use Rattle.verdict.proofs.First.{first-is, clean-exactly, finds-exactly}
 
 module _ (table : List ℕ) (shares masks notion order : ℕ) (buffer held : List ℕ) where
@@ -70,7 +71,7 @@ module _ (table : List ℕ) (shares masks notion order : ℕ) (buffer held : Lis
     holds = λ same. let z : _≡_ {A = ℕ} 0 1 = cc in absurd (omega (arith, z));
     broken = λ size same. let z : _≡_ {A = ℕ} 0 1 = cc in absurd (omega (arith, z));
     refused = λ other same.
-        ap (λ (a : Lent). a .held) e ∙ verdict-kept table shares masks notion buffer (refusalNumber why) order (ap (λ (a : Lent). a .told) (sym e));
+        ap (λ (a : Lent). a .held) e ∙ verdict-settled table shares masks notion order buffer .kept (refusalNumber why) (ap (λ (a : Lent). a .told) (sym e));
   }
 
 module _ (table : List ℕ) (shares masks notion size from to : ℕ) (buffer held : List ℕ) where
@@ -134,6 +135,6 @@ module _ (table : List ℕ) (shares masks notion size from to : ℕ) (buffer hel
     clean = λ same. let z : _≡_ {A = ℕ} 0 1 = cc in absurd (omega (arith, z));
     found = λ k rank same. let z : _≡_ {A = ℕ} 0 1 = cc in absurd (omega (arith, z));
     refused = λ other same.
-        ap (λ (a : Lent). a .held) e ∙ range-kept table shares masks notion buffer (refusalNumber why) size from to
+        ap (λ (a : Lent). a .held) e ∙ range-settled table shares masks notion size from to buffer .kept (refusalNumber why)
         (ap (λ (a : Lent). a .told) (sym e));
   }

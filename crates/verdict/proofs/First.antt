@@ -30,7 +30,8 @@ use Rattle.verdict.specs.Jobs.{nothing, found, broken, Ordered, Asked}
 use Rattle.search.proofs.Keeping.{each-place, keep-place, none-keep, keep-none, at-place}
 use Rattle.search.proofs.Turns.{searched-none, searched-suc, rank-first}
 use Rattle.verdict.proofs.Watching.{set-watched, watched-set, each-searched, all-whole}
-use Rattle.verdict.proofs.Accepting.{verdict-answered, range-answered, shown-nil, shown-set, ranked-nil, ranked-set}
+use Rattle.verdict.proofs.Accepting.{shown-nil, shown-set, ranked-nil, ranked-set}
+use Rattle.verdict.proofs.Conditions.{verdict-answered, range-answered}
 
 -- ---- the verdict
 

@@ -1,5 +1,4 @@
 -- A search that is divided over machines answers what one machine would, for any division into jobs.
---     job-accepts       `job` tells bounds exactly where the numbers of wires, of wires of a set and of jobs are within limits, and the job is one of them
 --     job-exactly       a job's answer is that of the range check from floor(i × N / j) up to, without, floor((i + 1) × N / j)
 --     jobs-clean        every job of a size is clean exactly when no set of the size breaks
 --     jobs-either       every job is clean, or a job finds a set and those before it are clean
@@ -11,17 +10,14 @@ use native.Mathlib.Nat.{eq-or-lt-of-le, le-of-suc-le-suc, not-suc-le-zero, le-re
 use native.Mathlib.Omega.{arith}
 use mathlib.Core.Path.{_≡_, refl, sym, _∙_, ap, ap₂, subst}
 use mathlib.Core.Logic.{_⊎_, inl, inr, _↔_}
-use mathlib.Core.Bool.{Bool, true, false, cond, _||_, true≢false}
+use mathlib.Core.Bool.{Bool, true, false}
 use mathlib.Core.List.{List, [], _∷_, _++_}
-use borrow.Author.Tests.{ltb-false, leb-false}
-use lib.Dec.{ltb, leb, eqb}
+use Rattle.limits.specs.Limits.{maxWires}
 use Rattle.basics.specs.Folds.{keep}
-use Rattle.basics.specs.Told.{Lent, values, refusal}
-use Rattle.basics.proofs.Tests.{or-none}
+use Rattle.basics.specs.Told.{Lent, values}
 use Rattle.basics.proofs.Folds.{keep-append}
-use Rattle.basics.proofs.Telling.{test-passed}
 use Rattle.records.specs.Layout.{wireCount}
-use Rattle.table.proofs.Entries.{accepted-exactly}
+use Rattle.table.proofs.Conditions.{accepted-exactly}
 use Rattle.counts.specs.Counts.{binom}
 use Rattle.revolving.specs.Order.{revolving, setAt, rankOf, isSet}
 use Rattle.sets.specs.Answers.{jobRanks}
@@ -33,7 +29,8 @@ use Rattle.search.specs.Search.{searched, isBreaking}
 use Rattle.verdict.specs.Answers.{notionOf, firstShown, firstRanked, verdictOf, rangeCheck}
 use Rattle.verdict.specs.Jobs.{nothing, found, broken, Ordered, Asked, Divided, JobAnswers, AllClean, CleanBelow, FirstFound}
 use Rattle.search.proofs.Keeping.{each-place, keep-none, none-keep}
-use Rattle.verdict.proofs.Accepting.{verdict-answered, range-answered, shown-nil, ranked-nil, ranked-set}
+use Rattle.verdict.proofs.Accepting.{shown-nil, ranked-nil, ranked-set}
+use Rattle.verdict.proofs.Conditions.{verdict-answered, range-answered}
 use Rattle.search.proofs.Turns.{first-of-size}
 use Rattle.verdict.proofs.Watching.{of-size, each-size, each-searched}
 
@@ -83,30 +80,6 @@ module _ (test : List ℕ → Bool) (g : ℕ → List (List ℕ)) where
 
 -- ---- the answers of the jobs
 
-pub job-accepts : (n size jobs job : ℕ)
-    → ((l : List ℕ) × (jobRanks n size job jobs ≡ values l)) ↔ ((n ≤ 512) × (size ≤ 7) × Divided jobs × (job < jobs))
-job-accepts n size jobs job = (λ t. there (t .0) (t .1), λ h. (_, job-told n size jobs (h .0) (h .1) (h .2 .some) (h .2 .few) job (h .3)))
-  where
-    there : (l : List ℕ) → jobRanks n size job jobs ≡ values l → (n ≤ 512) × (size ≤ 7) × Divided jobs × (job < jobs)
-    there l e =
-        let bounds = values (start (binom n size) jobs job ∷ start (binom n size) jobs (suc job) ∷ []) in
-        let wrong = eqb jobs 0 || ltb 65536 jobs || leb jobs job in
-        let third = cond wrong (refusal 19) bounds in
-        let a = test-passed refusal (λ t. t) (λ k. refl) (ltb 512 n) 12 (cond (ltb 7 size) (refusal 17) third) l e in
-        let b = test-passed refusal (λ t. t) (λ k. refl) (ltb 7 size) 17 third l (a .1) in
-        let c = test-passed refusal (λ t. t) (λ k. refl) wrong 19 bounds l (b .1) in
-        let two = or-none (eqb jobs 0 || ltb 65536 jobs) (leb jobs job) (c .0) in
-        let one = or-none (eqb jobs 0) (ltb 65536 jobs) (two .0) in (
-          ltb-false 512 n (a .0),
-          ltb-false 7 size (b .0),
-          record { some = positive jobs (one .0); few = ltb-false 65536 jobs (one .1) },
-          leb-false jobs job (two .1),
-        )
-      where
-        positive : (k : ℕ) → eqb k 0 ≡ false → 0 < k
-        positive zero e = absurd (true≢false e)
-        positive (suc k) e = omega arith
-
 module _ (table : List ℕ) (shares masks notion size jobs : ℕ) (buffer : List ℕ) (asked : Asked table shares masks notion size buffer)
     (divided : Divided jobs) where
   abbrev n : ℕ
@@ -118,7 +91,7 @@ module _ (table : List ℕ) (shares masks notion size jobs : ℕ) (buffer : List
   abbrev of-job : ℕ → List (List ℕ)
   of-job i = keep test (visited n size jobs i)
 
-  wires : n ≤ 512
+  wires : n ≤ maxWires
   wires = omega (arith, accepted-exactly table shares masks .0 (asked .sound) .short)
 
   abbrev bound : ℕ → ℕ

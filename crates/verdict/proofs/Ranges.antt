@@ -1,12 +1,11 @@
 -- The range check's answers, path by path. Where a test refuses, nothing was written; else the search's result decides.
 --     range-answer                          the answer after the first tests
---     range-accepted                        where all tests pass the first breaking set decides
 --     range-before, size-large, range-room, ranks-low, ranks-high, range-clean, range-found     the answers
 --     PassedRange, range-bytes              all tests passed
 use Prim.Native.Nat.{ℕ, _-_, _≤_, _<_}
 use native.Mathlib.Omega.{arith}
 use mathlib.Core.Path.{_≡_, sym, _∙_, ap, ap₂}
-use mathlib.Core.Bool.{false, cond, not, _&&_}
+use mathlib.Core.Bool.{cond, not, _&&_}
 use mathlib.Core.List.{List, [], _∷_}
 use borrow.Author.Tests.{le-leb, lt-leb, le-ltb, lt-ltb}
 use lib.Dec.{ltb, leb}
@@ -16,7 +15,7 @@ use Rattle.basics.specs.Folds.{keep}
 use Rattle.basics.specs.Told.{Lent, values, refusal, turnedDown}
 use Rattle.wires.specs.declared.Notion.{Notion}
 use Rattle.records.specs.Layout.{wireCount}
-use Rattle.table.proofs.Entries.{Accepted}
+use Rattle.table.proofs.Conditions.{accepted-exactly}
 use Rattle.counts.specs.Counts.{binom}
 use Rattle.revolving.specs.Order.{setAt}
 use Rattle.revolving.proofs.Rising.{isSet-parts}
@@ -24,7 +23,8 @@ use Rattle.revolving.proofs.Revolving.{set-at-is-set, rank-of-set}
 use Rattle.verdict.specs.declared.Opened.{Opened}
 use Rattle.verdict.specs.declared.RangeAnswer.{RangeAnswer}
 use Rattle.search.specs.Search.{stretch, isBreaking, first, FirstRank}
-use Rattle.verdict.specs.Answers.{rangeTold, wrongNotion, notionOf, openedTold, opens, written, firstRanked, rangeCheck}
+use Rattle.verdict.specs.Answers.{rangeTold, notionOf, openedTold, opens, written, firstRanked, rangeCheck}
+use Rattle.verdict.proofs.Conditions.{range-answered}
 use Rattle.search.proofs.Turns.{rank-first}
 use Rattle.verdict.proofs.Admitting.{opened-answer, opened-refusal}
 use Rattle.verdict.proofs.Entries.{stretch-decided, opened-for, short}
@@ -39,16 +39,6 @@ module _ (table : List ℕ) (shares masks notion size from to : ℕ) (buffer : L
       (cond (ltb (length buffer) size) (turnedDown 16 buffer)
       (cond (not (leb from to && leb to all)) (turnedDown 18 buffer)
       (firstRanked (wireCount table) (keep (isBreaking (notionOf notion) table shares masks) (stretch (wireCount table) size from to)) buffer)))
-
-  -- where all tests pass the first breaking set decides
-  pub range-accepted : Accepted table shares masks → wrongNotion notion ≡ false → size ≤ maxSize → size ≤ length buffer → from ≤ to → to ≤ all
-      → rangeCheck table shares masks notion size from to buffer
-      ≡ firstRanked (wireCount table) (keep (isBreaking (notionOf notion) table shares masks) (stretch (wireCount table) size from to)) buffer
-  range-accepted sound known small room rises ends =
-      let shows : range-answer
-      ≡ firstRanked (wireCount table) (keep (isBreaking (notionOf notion) table shares masks) (stretch (wireCount table) size from to)) buffer =
-      simp (le-ltb maxSize size small, le-ltb (length buffer) size room, le-leb from to rises, le-leb to all ends) in
-      opened-answer table shares masks notion (λ number. turnedDown number buffer) range-answer sound known ∙ shows
 
   -- what the entry is to tell
   abbrev asked : Lent
@@ -110,7 +100,8 @@ module _ (table : List ℕ) (shares masks notion size from to : ℕ) (buffer : L
   decides l e =
       let o = opened-for table shares masks notion kind (p .told) in
       ap (λ (l : List (List ℕ)). firstRanked (wireCount table) l buffer) (sym e)
-      ∙ sym (range-accepted table shares masks notion size from to buffer (o .sound) (o .known) (p .small) (p .room) (p .rises) (p .ends))
+      ∙ sym (range-answered table shares masks notion size from to buffer
+      (record { sound = accepted-exactly table shares masks .1 (o .sound); known = o .known; small = p .small; room = p .room }) (p .rises) (p .ends))
 
   pub range-clean : to ≤ rank → rangeTold RangeAnswer.Clean buffer ≡ result
   range-clean h =

@@ -9,7 +9,6 @@
 --     FirstFound               a job finds a set, and every job before it is clean
 use Prim.Native.Nat.{ℕ, _≤_, _<_}
 use mathlib.Core.Path.{_≡_}
-use mathlib.Core.Bool.{false}
 use mathlib.Core.List.{List, [], _∷_}
 use lib.ListN.{length}
 use Rattle.limits.specs.Limits.{maxSize}
@@ -17,7 +16,8 @@ use Rattle.basics.specs.Told.{Lent, values}
 use Rattle.records.specs.Layout.{wireCount}
 use Rattle.table.specs.Answers.{tableCheck}
 use Rattle.sets.specs.Answers.{jobRanks}
-use Rattle.verdict.specs.Answers.{wrongNotion, written, rangeCheck}
+use Rattle.verdict.specs.Answers.{written, rangeCheck}
+use Rattle.verdict.specs.Conditions.{WrongNotion}
 
 abbrev pub nothing : List ℕ → Lent
 nothing buffer = record { told = values []; held = buffer }
@@ -30,14 +30,14 @@ broken set buffer = record { told = values (length set ∷ []); held = written s
 
 pub record Ordered (table : List ℕ) (shares masks notion order : ℕ) (buffer : List ℕ) : Type 0 where
   pub sound : values [] ≡ tableCheck table shares masks
-  pub known : wrongNotion notion ≡ false
+  pub known : WrongNotion notion → ⊥
   pub low : 1 ≤ order
   pub high : order < shares
   pub room : order ≤ length buffer
 
 pub record Asked (table : List ℕ) (shares masks notion size : ℕ) (buffer : List ℕ) : Type 0 where
   pub sound : values [] ≡ tableCheck table shares masks
-  pub known : wrongNotion notion ≡ false
+  pub known : WrongNotion notion → ⊥
   pub small : size ≤ maxSize
   pub room : size ≤ length buffer
 

@@ -4,7 +4,8 @@ use mathlib.Core.Path.{refl, sym, _∙_, ap}
 use mathlib.Core.Bool.{true, false}
 use borrow.Author.Needs.{needs}
 use Rattle.table.specs.Answers.{tableTold}
-use Rattle.table.proofs.Entries.{refused-before, function-low, function-high, accepted, shares-high, answered}
+use Rattle.table.proofs.Entries.{refused-before, function-low, function-high, answered}
+use Rattle.table.proofs.Conditions.{accepted-exactly}
 use Rattle.table.proofs.function_check.Statement.{statement}
 use Rattle.table.proofs.function_check.Tie as tie
 
@@ -32,9 +33,8 @@ sum-of-outers-requires c κs = search needs
 function-record-requires : tie.Need-function-record-requires
 function-record-requires c κs =
     let a = c .before .before .before .before .before .before .before .args in
-    shares-high (a .table .now) (a .shares) (a .masks)
-    (accepted _ _ _
-    (ap tableTold (sym (c .before .before .before .enum-told .given .1)) ∙ c .before .before .before .before .before .table-check .ensures))
+    accepted-exactly (a .table .now) (a .shares) (a .masks) .0
+    (ap tableTold (sym (c .before .before .before .enum-told .given .1)) ∙ c .before .before .before .before .before .table-check .ensures) .high
 
 added-requires : tie.Need-added-requires
 added-requires c κs = search needs

@@ -1,0 +1,116 @@
+-- Which call gets which number: each entry of `verdict` tells a refusal exactly when its condition is the first that holds, values exactly when none does,
+-- and a refusal leaves the buffer as it was.
+--     opened-chain                       both entries begin with the chain of a table's tests and the notion's
+--     shown-told, ranked-told            what shows the first of a list of sets tells values
+--     verdict-settled, range-settled     the entries, for all arguments
+--     verdict-ordered, range-asked       values are told exactly where no test turns the call down
+--     verdict-answered, range-answered   and what is told then is the first breaking set of the list that is searched
+use Prim.Native.Nat.{ℕ, _≤_, _<_}
+use native.Mathlib.Omega.{arith}
+use mathlib.Core.Path.{_≡_, refl}
+use mathlib.Core.Logic.{_↔_, Iff·trans, inl, inr, ⊎-elim}
+use mathlib.Core.List.{List, [], _∷_, _++_}
+use lib.ListN.{length}
+use Rattle.limits.specs.Limits.{maxSize}
+use Rattle.basics.specs.Told.{Lent, values, turnedDown}
+use Rattle.basics.specs.Conditions.{Condition, _when_, None, SettlesLent}
+use Rattle.basics.proofs.Conditions.{Chain, own, test, settles-lent, less, equal, neither, not-both, not-less, not-least}
+use Rattle.counts.specs.Counts.{binom}
+use Rattle.records.specs.Layout.{wireCount}
+use Rattle.table.specs.Conditions.{tableConditions}
+use Rattle.table.proofs.Conditions.{table-chain, sound-none, none-sound, accepted-exactly}
+use Rattle.revolving.specs.Order.{rankOf}
+use Rattle.search.specs.Search.{searched, stretch, breakingSets}
+use Rattle.verdict.specs.Answers.{notionOf, opened, firstShown, firstRanked, verdictOf, rangeCheck}
+use Rattle.verdict.specs.Jobs.{Ordered, Asked}
+use Rattle.verdict.specs.Conditions.{WrongNotion, verdictConditions, rangeConditions}
+
+pub shown-told : (l : List (List ℕ)) (buffer : List ℕ) → (v : List ℕ) × (firstShown l buffer .told ≡ values v)
+shown-told [] buffer = ([], refl)
+shown-told (s ∷ later) buffer = (length s ∷ [], refl)
+
+pub ranked-told : (n : ℕ) (l : List (List ℕ)) (buffer : List ℕ) → (v : List ℕ) × (firstRanked n l buffer .told ≡ values v)
+ranked-told n [] buffer = ([], refl)
+ranked-told n (s ∷ later) buffer = (length s ∷ rankOf n s ∷ [], refl)
+
+module _ (table : List ℕ) (shares masks notion : ℕ) where
+  pub opened-chain : {A : Type 0} {refuse : ℕ → A} {answer rest : A} {later : List Condition} → Chain refuse answer later rest
+      → Chain refuse answer (tableConditions table shares masks ++ 14 when WrongNotion notion ∷ later)
+      (opened refuse table shares masks notion rest)
+  opened-chain c = table-chain table shares masks (test 14 (neither (equal notion 1) (equal notion 2)) c)
+
+  module _ (order : ℕ) (buffer : List ℕ) where
+    abbrev shown : Lent
+    shown = firstShown (breakingSets (notionOf notion) table shares masks (searched (wireCount table) order)) buffer
+
+    verdict-chain : Chain (λ n. turnedDown n buffer) shown (verdictConditions table shares masks notion order buffer)
+        (verdictOf table shares masks notion order buffer)
+    verdict-chain =
+        opened-chain
+        (test 15 (not-both (not-least 1 order) (not-less order shares))
+        (test 16 (less (length buffer) order)
+        (own (λ n. turnedDown n buffer) shown)))
+
+    pub verdict-settled : SettlesLent (verdictConditions table shares masks notion order buffer) buffer
+        (verdictOf table shares masks notion order buffer)
+    verdict-settled =
+        let v = shown-told (breakingSets (notionOf notion) table shares masks (searched (wireCount table) order)) buffer in
+        settles-lent verdict-chain (v .0) (v .1)
+
+    verdict-none : None (verdictConditions table shares masks notion order buffer) ↔ Ordered table shares masks notion order buffer
+    verdict-none = (
+      λ n. let s = none-sound table shares masks n in
+          let low : order < 1 → ⊥ = λ h. s .1 .1 .0 (inl h) in
+          let high : shares ≤ order → ⊥ = λ h. s .1 .1 .0 (inr h) in
+          let room : length buffer < order → ⊥ = s .1 .1 .1 .0 in
+          record { sound = accepted-exactly table shares masks .1 (s .0); known = s .1 .0; low = omega arith; high = omega arith; room = omega arith },
+      λ o. sound-none table shares masks (accepted-exactly table shares masks .0 (o .sound))
+          (o .known, (⊎-elim (λ h. omega arith) (λ h. omega arith), (λ h. omega arith, tt))),
+    )
+
+    pub verdict-ordered : ((l : List ℕ) × (verdictOf table shares masks notion order buffer .told ≡ values l))
+        ↔ Ordered table shares masks notion order buffer
+    verdict-ordered = Iff·trans (verdict-settled .settles .answered) verdict-none
+
+    pub verdict-answered : Ordered table shares masks notion order buffer → verdictOf table shares masks notion order buffer ≡ shown
+    verdict-answered o = verdict-chain .none (verdict-none .1 o)
+
+  module _ (size from to : ℕ) (buffer : List ℕ) where
+    abbrev ranked : Lent
+    ranked = firstRanked (wireCount table) (breakingSets (notionOf notion) table shares masks (stretch (wireCount table) size from to)) buffer
+
+    range-chain : Chain (λ n. turnedDown n buffer) ranked (rangeConditions table shares masks notion size from to buffer)
+        (rangeCheck table shares masks notion size from to buffer)
+    range-chain =
+        opened-chain
+        (test 17 (less maxSize size)
+        (test 16 (less (length buffer) size)
+        (test 18 (not-both (not-least from to) (not-least to (binom (wireCount table) size)))
+        (own (λ n. turnedDown n buffer) ranked))))
+
+    pub range-settled : SettlesLent (rangeConditions table shares masks notion size from to buffer) buffer
+        (rangeCheck table shares masks notion size from to buffer)
+    range-settled =
+        let v = ranked-told (wireCount table) (breakingSets (notionOf notion) table shares masks (stretch (wireCount table) size from to)) buffer in
+        settles-lent range-chain (v .0) (v .1)
+
+    range-none : None (rangeConditions table shares masks notion size from to buffer)
+        ↔ (Asked table shares masks notion size buffer × (from ≤ to) × (to ≤ binom (wireCount table) size))
+    range-none = (
+      λ n. let s = none-sound table shares masks n in
+          let small : maxSize < size → ⊥ = s .1 .1 .0 in
+          let room : length buffer < size → ⊥ = s .1 .1 .1 .0 in
+          let rises : to < from → ⊥ = λ h. s .1 .1 .1 .1 .0 (inl h) in
+          let ends : binom (wireCount table) size < to → ⊥ = λ h. s .1 .1 .1 .1 .0 (inr h) in
+          (record { sound = accepted-exactly table shares masks .1 (s .0); known = s .1 .0; small = omega arith; room = omega arith }, omega arith, omega arith),
+      λ o. sound-none table shares masks (accepted-exactly table shares masks .0 (o .0 .sound))
+          (o .0 .known, (λ h. omega arith, (λ h. omega arith, (⊎-elim (λ h. omega arith) (λ h. omega arith), tt)))),
+    )
+
+    pub range-asked : ((l : List ℕ) × (rangeCheck table shares masks notion size from to buffer .told ≡ values l))
+        ↔ (Asked table shares masks notion size buffer × (from ≤ to) × (to ≤ binom (wireCount table) size))
+    range-asked = Iff·trans (range-settled .settles .answered) range-none
+
+    pub range-answered : Asked table shares masks notion size buffer → from ≤ to → to ≤ binom (wireCount table) size
+        → rangeCheck table shares masks notion size from to buffer ≡ ranked
+    range-answered o rises ends = range-chain .none (range-none .1 (o, rises, ends))
