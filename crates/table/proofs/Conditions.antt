@@ -23,7 +23,7 @@ use Rattle.basics.proofs.Conditions.{Chain, own, test, settles-told, less, leas
 use Rattle.wires.specs.Wires.{Terms, beyond}
 use Rattle.wires.specs.Function.{computes}
 use Rattle.wires.proofs.Narrow.{Within}
-use Rattle.records.specs.Layout.{field, recordAt, wireAt, wireCount, wires}
+use Rattle.records.specs.Layout.{kindOf, recordAt, wireAt, wireCount, wires}
 use Rattle.table.specs.Answers.{wrongShares, wrongLength, wrongRecord, tested, tableCheck, functionCheck}
 use Rattle.table.specs.Conditions.{WrongShares, WrongLength, BitBeyond, WrongRecord, tableConditions, functionConditions}
 
@@ -49,7 +49,7 @@ pub wrong-records : (table : List ℕ) (shares masks : ℕ)
     → (some (λ w. wrongRecord shares masks (recordAt table w)) (upTo (wireCount table)) ≡ true) ↔ WrongRecord table shares masks
 wrong-records table shares masks =
     some-decides (wireCount table) (λ w. wrongRecord shares masks (recordAt table w))
-    (λ w. one-of (bit-beyond shares masks (wireAt table w .terms)) (less 1 (field 18 1 (recordAt table w))))
+    (λ w. one-of (bit-beyond shares masks (wireAt table w .terms)) (less 1 (kindOf (recordAt table w))))
 
 -- ---- the entries
 
@@ -85,7 +85,7 @@ pub record Sound (table : List ℕ) (shares masks : ℕ) : Type 0 where
   pub whole : length table % recordBytes ≡ 0
   pub short : length table ≤ maxTableBytes
   pub bits : (w : ℕ) → w < wireCount table → Within maxShares maxMasks shares masks (wireAt table w .terms)
-  pub flag : (w : ℕ) → w < wireCount table → field 18 1 (recordAt table w) ≤ 1
+  pub flag : (w : ℕ) → w < wireCount table → kindOf (recordAt table w) ≤ 1
 
 unset : (b : Bool) → (b ≡ true → ⊥) → b ≡ false
 unset true h = absurd (h refl)
@@ -122,7 +122,7 @@ module _ (table : List ℕ) (shares masks : ℕ) where
               noB = λ j p h. unset (wireAt table w .terms .shareB j) (λ e. c (w, l, inl (inr (inr (inl (j, p, (e, h)))))));
               noMask = λ k p h. unset (wireAt table w .terms .mask k) (λ e. c (w, l, inl (inr (inr (inr (k, p, (e, h)))))));
             };
-            flag = λ w l. let low : 1 < field 18 1 (recordAt table w) → ⊥ = λ h. c (w, l, inr h) in omega arith;
+            flag = λ w l. let low : 1 < kindOf (recordAt table w) → ⊥ = λ h. c (w, l, inr h) in omega arith;
           }
 
       right : Sound table shares masks → WrongShares shares masks → ⊥
