@@ -20,7 +20,7 @@ use Rattle.basics.proofs.Conditions.{own-told, not-both}
 use Rattle.sets.proofs.Conditions.{rising-fails, below-fails, job-chain, job-settled, set-settled, rank-settled}
 use Rattle.revolving.specs.Order.{revolving, setAt, rankOf, rising, below, isSet}
 use Rattle.sets.specs.Division.{start, HasRank, ExactlyOne}
-use Rattle.sets.specs.Answers.{setCount, jobRanks}
+use Rattle.sets.specs.Answers.{maxJobs, setCount, jobRanks}
 use Rattle.sets.specs.Visits.{JobTells, SetTells, RankTells}
 use Rattle.revolving.proofs.Rising.{isSet-parts, parts-isSet}
 use Rattle.revolving.proofs.Revolving.{revolving-length, set-at-is-set, set-of-rank, rank-unique}
