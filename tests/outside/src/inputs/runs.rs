@@ -13,7 +13,7 @@ use std::path::{Path, PathBuf};
 
 /// The texts of the program `try_report`, and the list of them.
 const TEXTS: &str = "crates/try_report/data";
-const DRAWN: usize = 120;
+const DRAWN: usize = 400;
 const MOST_SETS_OF_DRAWN: u64 = 20_000;
 
 /// What the program has to print.
@@ -145,7 +145,8 @@ fn drawn(random: &mut Random) -> Vec<Case> {
             text = damaged(random, &text);
         }
         if report(&text, MOST_SETS_OF_DRAWN).is_ok() {
-            cases.push(in_pieces(&text, text.len().max(1), None));
+            let pieces = random.between(1, 4);
+            cases.push(in_pieces(&text, text.len() / pieces + 1, None));
         }
     }
     cases
