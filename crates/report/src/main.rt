@@ -27,7 +27,8 @@ fn main() {
     print_report(&text[0..length]);
 }
 
-// Reads on after a short read, until the input ends or the buffer is full. Whether a read failed is told by its own answer.
+// Reads on after a short read, until the input ends or the buffer is full. A read's own answer tells whether it failed: errno may have been
+// set before.
 fn read_input(buffer: &mut [u8]) -> Input
     ensures { λ r. ⌜ r .length ≤ length (now (buffer .exit)) ⌝ }
 {
@@ -52,7 +53,8 @@ fn read_input(buffer: &mut [u8]) -> Input
     }
 }
 
-// One read, made again where a signal came before a byte did. A proved loop has to end, so it counts down from a number that no run uses up.
+// One read, made again where a signal came before a byte did. A proved loop has to end, so the tries are counted down, from a number that
+// no run uses up.
 fn read_some(buffer: &mut [u8]) -> isize {
     let mut tries = u64::MAX;
     loop {
