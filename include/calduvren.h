@@ -1,6 +1,7 @@
 /*
- * Calduvren: a probing verifier for masked gadgets over bits, for callers in C and C++ on x86-64 Linux. To be linked
- * with libcalduvren.a, which `rt staticlib calduvren` writes and which needs nothing but the C library.
+ * Calduvren: a probing verifier for masked gadgets over bits, for callers in C and C++ on x86-64 Linux. A caller is
+ * linked with `-L target/staticlib -lcalduvren`, after its own files; `rt staticlib calduvren` writes that library,
+ * libcalduvren.a, which needs nothing but the C library.
  *
  * A gadget computes on two operands, a and b, each a secret bit split into shares, and adds random bits, the masks.
  * A watcher reads a few of its wires. The functions below read a gadget's description into a table of its wires, check

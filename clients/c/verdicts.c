@@ -2,7 +2,7 @@
  * The NI and SNI verdicts on a description file, at its own order. Below a broken one stand the wires of the first
  * breaking set, each with the part of the file that computes it.
  *
- * build: gcc -O2 -I include clients/c/verdicts.c target/staticlib/libcalduvren.a -o target/verdicts
+ * build: gcc -O2 -I include clients/c/verdicts.c -L target/staticlib -lcalduvren -o target/verdicts
  *        (in the repository's root; `rt staticlib calduvren` writes the library)
  * usage: target/verdicts FILE
  * exit status: 0 both verdicts were printed; 1 the text is refused; 2 no answer, the reason is on standard error

@@ -4,10 +4,10 @@
  * declaration with its arguments in another order than the library's does not pass. (Their names are compared by
  * tests/outside.) All that is lent to be written is compared after each call, also what the call must not touch.
  *
- * build: gcc -std=c11 -Wall -Wextra -pedantic -Werror -I include tests/header/header.c target/staticlib/libcalduvren.a
- *            -o target/header
- *        g++ -std=c++17 -Wall -Wextra -pedantic -Werror -I include -x c++ tests/header/header.c -x none
- *            target/staticlib/libcalduvren.a -o target/header
+ * build: gcc -std=c11 -Wall -Wextra -pedantic -Werror -I include tests/header/header.c
+ *            -L target/staticlib -lcalduvren -o target/header
+ *        g++ -std=c++17 -Wall -Wextra -pedantic -Werror -I include -x c++ tests/header/header.c
+ *            -L target/staticlib -lcalduvren -o target/header
  *        (each one line, in the repository's root; `rt staticlib calduvren` writes the library)
  * usage: target/header
  * exit status: 0 all calls agree; 1 what differs was printed

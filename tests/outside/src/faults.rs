@@ -3,8 +3,11 @@
 
 use crate::model;
 use crate::model::breaking::{breaks, inner, shares_of_a, shares_of_b, sum, Search, NI, SCOPE, SNI};
+use crate::model::reading::MAX_TEXT_BYTES;
 use crate::model::records::{parse, to_bytes, Record};
+use crate::model::report::report;
 use crate::model::sets::{count, from_rank};
+use crate::passes::examples::A;
 use crate::reply::Reply;
 use crate::tally::Tally;
 
@@ -80,7 +83,48 @@ const NOT_REVERSED_RANK: &str = "the rank of a set, second half not reversed";
 const PRODUCT_32: &str = "a job's product in 32 bits";
 const PRODUCT_64: &str = "a job's product in 64 bits";
 
+/// What a wrong program prints for a text, whose report is given too.
+type Printed = fn(&[u8], &str) -> String;
+
+const PROGRAMS: [(&str, Printed); 7] = [
+    ("a program prints text A's report always", |_, _| {
+        small_report(A.as_bytes())
+    }),
+    ("a program prints nothing", |_, _| String::new()),
+    ("a program leaves the verdicts out", |_, report| {
+        report.split_inclusive('\n').take(2).collect()
+    }),
+    ("a program says holds always", |_, report| {
+        let holds = |line: &str| match line.split_once(" broken") {
+            None => String::from(line),
+            Some((notion, _)) => format!("{notion} holds\n"),
+        };
+        report.split_inclusive('\n').map(holds).collect()
+    }),
+    ("a program gives the NI verdict for SNI too", |_, report| {
+        match report.split_inclusive('\n').collect::<Vec<&str>>()[..] {
+            [first, function, ni, _] => format!("{first}{function}{ni}S{ni}"),
+            _ => String::from(report),
+        }
+    }),
+    ("a program cuts a text off at 4,096 bytes", |text, report| {
+        match text.len() > MAX_TEXT_BYTES {
+            true => small_report(&text[..MAX_TEXT_BYTES]),
+            false => String::from(report),
+        }
+    }),
+    ("a program ends a text at byte 0", |text, report| {
+        match text.iter().position(|byte| *byte == 0) {
+            Some(end) => small_report(&text[..end]),
+            None => String::from(report),
+        }
+    }),
+];
+const FIRST_PIECE: &str = "a program takes the first piece for the text";
+
 pub fn name_all(tally: &mut Tally) {
+    PROGRAMS.iter().for_each(|(name, _)| tally.expect_fault(name));
+    tally.expect_fault(FIRST_PIECE);
     VERDICTS.iter().for_each(|(name, _, _)| tally.expect_fault(name));
     for name in [TWO_SYMBOLS, NO_SUMS, TURNED_DOWN, NO_TABLE, CLEAN, INVENTED_COUNT] {
         tally.expect_fault(name);
@@ -152,6 +196,21 @@ pub fn verdict(tally: &mut Tally, records: &[Record], notion: usize, order: usiz
             tally.fault(name, wrong != *engine);
         }
     }
+}
+
+/// On a text that the program read in pieces, the first of so many bytes.
+pub fn program(tally: &mut Tally, text: &[u8], first_piece: usize, report: &str, printed: &[u8]) {
+    for (name, wrong) in &PROGRAMS {
+        tally.fault(name, wrong(text, report).as_bytes() != printed);
+    }
+    if first_piece < text.len() {
+        tally.fault(FIRST_PIECE, small_report(&text[..first_piece]).as_bytes() != printed);
+    }
+}
+
+/// The report, where its verdicts are no long work.
+fn small_report(text: &[u8]) -> String {
+    report(text, MOST_SETS).unwrap_or_default()
 }
 
 pub fn range_check(tally: &mut Tally, engine: &Reply) {

@@ -1,7 +1,9 @@
 //! The outside tests of Calduvren: a model of the scope, written apart from the engine, is compared with the engine
-//! through its C interface on many inputs. The one argument is the seed, a number.
+//! through its C interface on many inputs, and with the program `report` as it was built. The one argument is the seed, a
+//! number.
 
 mod answers;
+mod child;
 mod engine;
 mod faults;
 mod inputs;

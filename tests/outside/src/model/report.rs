@@ -2,31 +2,18 @@
 
 use super::breaking::{TooMany, NI, SCOPE, SNI};
 use super::functions::{computes, COPY, PRODUCT, SUM};
-use super::reading::read;
+use super::reading::{read, Reading};
 use super::records::MAX_TABLE_BYTES;
+use super::trees::Fault;
 
 /// The whole report, line ends included; `most` bounds the sets that either verdict looks at.
 pub fn report(text: &[u8], most: u64) -> Result<String, TooMany> {
-    let reading = match read(text, MAX_TABLE_BYTES) {
-        Ok(reading) => reading,
-        Err(fault) => {
-            return Ok(format!(
-                "refused {} at {}\n",
-                fault.cause.number_and_word().0,
-                fault.offset
-            ))
-        }
+    let (mut report, reading) = opening(text);
+    let Some(reading) = reading else {
+        return Ok(report);
     };
-    let (order, shares, masks) = (reading.order, reading.shares(), reading.masks);
-    let named = [(PRODUCT, "product"), (SUM, "sum"), (COPY, "copy")];
-    let computed = named
-        .iter()
-        .find(|(number, _)| computes(&reading.wires, shares, masks, *number));
-    let function = computed.map_or("other", |(_, name)| name);
-    let wires = reading.wires.len();
-    let mut report = format!("order {order} shares {shares} masks {masks} wires {wires}\nfunction {function}\n");
     for (notion, name) in [(NI, "NI"), (SNI, "SNI")] {
-        let verdict = match SCOPE.first(&reading.wires, notion, order, most)? {
+        let verdict = match SCOPE.first(&reading.wires, notion, reading.order, most)? {
             None => String::from(" holds"),
             Some(found) => found
                 .set
@@ -36,4 +23,21 @@ pub fn report(text: &[u8], most: u64) -> Result<String, TooMany> {
         report += &format!("{name}{verdict}\n");
     }
     Ok(report)
+}
+
+/// The lines before the verdicts, or the only one of a refused text, and what was read.
+pub fn opening(text: &[u8]) -> (String, Option<Reading>) {
+    let reading = match read(text, MAX_TABLE_BYTES) {
+        Ok(reading) => reading,
+        Err(Fault { cause, offset }) => return (format!("refused {} at {offset}\n", cause.number_and_word().0), None),
+    };
+    let (order, shares, masks) = (reading.order, reading.shares(), reading.masks);
+    let named = [(PRODUCT, "product"), (SUM, "sum"), (COPY, "copy")];
+    let computed = named
+        .iter()
+        .find(|(number, _)| computes(&reading.wires, shares, masks, *number));
+    let function = computed.map_or("other", |(_, name)| name);
+    let wires = reading.wires.len();
+    let lines = format!("order {order} shares {shares} masks {masks} wires {wires}\nfunction {function}\n");
+    (lines, Some(reading))
 }

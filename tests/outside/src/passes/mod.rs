@@ -1,11 +1,12 @@
 //! The passes of a run. Each compares some entries with the model on inputs of its own, drawn from its own stream of
 //! random numbers, so that a change to one pass leaves the inputs of the others as they were.
 
-mod examples;
+pub mod examples;
 mod guards;
 mod header;
 mod jobs;
 mod large;
+mod programs;
 mod ranges;
 mod reports;
 mod sets;
@@ -20,7 +21,7 @@ use crate::tally::Tally;
 
 type Pass = fn(&mut Random, &mut Tally);
 
-const PASSES: [Pass; 12] = [
+const PASSES: [Pass; 13] = [
     guards::run,
     examples::run,
     sets::run,
@@ -33,6 +34,7 @@ const PASSES: [Pass; 12] = [
     watcher::run,
     stack::run,
     header::run,
+    programs::run,
 ];
 
 pub fn run_all(seed: u64, tally: &mut Tally) {

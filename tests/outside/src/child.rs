@@ -1,0 +1,193 @@
+//! A program as a child process: what it is given, and what came of it. Every wait has a limit in time.
+
+use std::fs::File;
+use std::io::{Read, Seek, Write};
+use std::os::unix::process::CommandExt;
+use std::path::PathBuf;
+use std::process::{Child, ChildStdin, Command, ExitStatus, Stdio};
+use std::sync::mpsc::{channel, Receiver};
+use std::thread::{sleep, spawn};
+use std::time::{Duration, Instant};
+
+/// Long enough for a reader that waits to take one piece of its input before the next comes.
+const PAUSE: Duration = Duration::from_millis(2);
+/// Between two looks at whether a child has ended.
+const LOOK: Duration = Duration::from_millis(1);
+/// For what a child printed to arrive once it has ended.
+const ARRIVAL: Duration = Duration::from_secs(5);
+/// More than this of what a child prints is not kept, and it finds its output closed.
+const MOST_KEPT: u64 = 1 << 20;
+
+/// The library that makes the system odd; tests/outside/odd.c says how.
+const ODD: &str = "target/outside/odd.so";
+
+/// The signal that no process can put off.
+const KILL: i32 = 9;
+
+extern "C" {
+    fn kill(process: i32, signal: i32) -> i32;
+}
+
+#[derive(Clone)]
+pub enum Input {
+    File(PathBuf),
+    /// A pipe that brings one piece after the other.
+    Pieces(Vec<Vec<u8>>),
+    /// A pipe that brings these bytes, and then spaces without an end.
+    Endless(Vec<u8>),
+    Closed,
+}
+
+#[derive(Clone, Copy, PartialEq)]
+pub enum Output {
+    Pipe,
+    Full,
+    Closed,
+}
+
+pub struct Call {
+    pub input: Input,
+    pub output: Output,
+    /// What is odd about the system.
+    pub odd: Option<&'static str>,
+}
+
+pub struct Outcome {
+    pub printed: Vec<u8>,
+    /// On standard error.
+    pub said: Vec<u8>,
+    /// None for a child that was stopped at its limit.
+    pub status: Option<ExitStatus>,
+    /// How many bytes of a file were read.
+    pub taken: u64,
+}
+
+impl Call {
+    /// With a usual output and nothing odd.
+    pub fn on(input: Input) -> Call {
+        Call {
+            input,
+            output: Output::Pipe,
+            odd: None,
+        }
+    }
+
+    pub fn run(&self, program: &str, limit: Duration) -> Outcome {
+        let mut file = match &self.input {
+            Input::File(path) => Some(opened(path)),
+            _ => None,
+        };
+        let mut child = self.start(program, file.as_ref());
+        if let Some(pipe) = child.stdin.take() {
+            let input = self.input.clone();
+            spawn(move || feed(pipe, input));
+        }
+        let printed = child.stdout.take().map(collect);
+        let said = child.stderr.take().map(collect);
+        let mut status = wait(&mut child, limit);
+        let mut arrived = |bytes: Option<Receiver<Vec<u8>>>| {
+            let bytes = bytes.map_or(Ok(Vec::new()), |bytes| bytes.recv_timeout(ARRIVAL));
+            // Where the output stays open, something that the child started goes on.
+            bytes.unwrap_or_else(|_| {
+                status = None;
+                Vec::new()
+            })
+        };
+        let (printed, said) = (arrived(printed), arrived(said));
+        // The child's standard input is this file too, with one position for both.
+        let taken = file.as_mut().map_or(0, |file| file.stream_position().unwrap_or(0));
+        Outcome {
+            printed,
+            said,
+            status,
+            taken,
+        }
+    }
+
+    fn start(&self, program: &str, file: Option<&File>) -> Child {
+        let mut command = match (&self.input, self.output) {
+            (Input::Closed, _) => through_shell("exec \"$0\" <&-", program),
+            (_, Output::Closed) => through_shell("exec \"$0\" >&-", program),
+            _ => Command::new(program),
+        };
+        command.stdin(match (&self.input, file) {
+            (_, Some(file)) => Stdio::from(file.try_clone().expect("a file can be shared")),
+            (Input::Closed, _) => Stdio::null(),
+            _ => Stdio::piped(),
+        });
+        command.stdout(match self.output {
+            Output::Full => Stdio::from(File::options().write(true).open("/dev/full").expect("it can be opened")),
+            _ => Stdio::piped(),
+        });
+        command.stderr(Stdio::piped()).process_group(0);
+        if let Some(odd) = self.odd {
+            command.env("LD_PRELOAD", ODD).env("ODD", odd);
+        }
+        command
+            .spawn()
+            .unwrap_or_else(|why| panic!("{program} can be started: {why}"))
+    }
+}
+
+fn opened(path: &PathBuf) -> File {
+    File::open(path).unwrap_or_else(|why| panic!("{} can be opened: {why}", path.display()))
+}
+
+/// The shell closes what is to be closed and becomes the program.
+fn through_shell(line: &str, program: &str) -> Command {
+    let mut command = Command::new("sh");
+    command.args(["-c", line, program]);
+    command
+}
+
+/// A child that ends before it has read all closes the pipe, which is no fault.
+fn feed(mut pipe: ChildStdin, input: Input) {
+    match input {
+        Input::Pieces(pieces) => {
+            for (number, piece) in pieces.iter().enumerate() {
+                if number > 0 {
+                    sleep(PAUSE);
+                }
+                if pipe.write_all(piece).is_err() {
+                    return;
+                }
+            }
+        }
+        Input::Endless(start) => {
+            let mut bytes = start;
+            while pipe.write_all(&bytes).is_ok() {
+                bytes = vec![b' '; 4096];
+            }
+        }
+        Input::File(_) | Input::Closed => {}
+    }
+}
+
+fn collect(pipe: impl Read + Send + 'static) -> Receiver<Vec<u8>> {
+    let (sender, receiver) = channel();
+    spawn(move || {
+        let mut bytes = Vec::new();
+        let read = pipe.take(MOST_KEPT).read_to_end(&mut bytes);
+        // Nobody may be waiting any more.
+        let _ = read.map(|_| sender.send(bytes));
+    });
+    receiver
+}
+
+/// The child's status, or None where it had to be stopped.
+fn wait(child: &mut Child, limit: Duration) -> Option<ExitStatus> {
+    let start = Instant::now();
+    while start.elapsed() < limit {
+        let ended = child.try_wait().expect("a child can be waited for");
+        if ended.is_some() {
+            return ended;
+        }
+        sleep(LOOK);
+    }
+    // The child leads a group of its own, which it shares with all that it started.
+    let group = i32::try_from(child.id()).expect("a process has a small number");
+    // SAFETY: a signal to other processes; the child is not waited for yet, so the number is still its own.
+    unsafe { kill(-group, KILL) };
+    child.wait().expect("a child can be waited for");
+    None
+}
