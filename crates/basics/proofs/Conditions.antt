@@ -2,8 +2,9 @@
 --     Chain                      each condition's refusal where it is the first that holds; the operation's own answer where none does; one or the other
 --     own, test                  a chain of no tests; one test more, before the others
 --     values-refusal             values are no refusal
---     due, passed, settles       what a chain of any kind of answer tells, where its own answer tells values
+--     passed, settles            what a chain of any kind of answer tells, where its own answer tells values
 --     settles-told, own-told, settles-lent     the two kinds of answer; values that are told are the operation's own
+--     one-answer                 where conditions are settled, one of them is the first that holds, or none holds
 --     less, least, equal         the tests on two numbers decide
 --     one-of, one-of-three, one-of-four, both, fails, neither, not-both, some-decides     tests that are put together decide what is put together
 --     not-less, not-least        the tests on two numbers, the other way round
@@ -66,7 +67,7 @@ module _ {A : Type 0} {refuse : ℕ → A} {answer : A} {conditions : List Condi
   same-number : (m n : ℕ) → chain ≡ refuse m → tells chain ≡ refusal n → m ≡ n
   same-number m n f e = let g : refusal m ≡ refusal n = sym (refuses m) ∙ ap tells (sym f) ∙ e in cc
 
-  pub due : (n : ℕ) → tells chain ≡ refusal n → First conditions n
+  due : (n : ℕ) → tells chain ≡ refusal n → First conditions n
   due n e = go (c .either)
     where
       go : ((m : ℕ) × First conditions m) ⊎ None conditions → First conditions n
@@ -99,6 +100,12 @@ pub settles-lent : {answer chain : Lent} {conditions : List Condition} {buffer :
 settles-lent c l e =
     let s = settles c (λ (a : Lent). a .told) (λ n. refl) l e in
     record { settles = s; kept = λ n r. ap (λ (a : Lent). a .held) (c .first n (s .refused n .0 r)) }
+
+-- every call has one answer: the refusal of one number, or values
+pub one-answer : {conditions : List Condition} (told : Told) → Settles conditions told
+    → ((n : ℕ) × (told ≡ refusal n) × First conditions n) ⊎ ((l : List ℕ) × (told ≡ values l) × None conditions)
+one-answer (values l) s = inr (l, refl, s .answered .0 (l, refl))
+one-answer (refusal n) s = inl (n, refl, s .refused n .0 refl)
 
 -- ---- what the tests decide
 

@@ -1,7 +1,6 @@
 -- Which call gets which number: each entry of `verdict` tells a refusal exactly when its condition is the first that holds, values exactly when none does,
 -- and a refusal leaves the buffer as it was.
 --     opened-chain                       both entries begin with the chain of a table's tests and the notion's
---     shown-told, ranked-told            what shows the first of a list of sets tells values
 --     verdict-settled, range-settled     the entries, for all arguments
 --     verdict-ordered, range-asked       values are told exactly where no test turns the call down
 --     verdict-answered, range-answered   and what is told then is the first breaking set of the list that is searched
@@ -25,11 +24,11 @@ use Rattle.verdict.specs.Answers.{notionOf, opened, firstShown, firstRan
 use Rattle.verdict.specs.Jobs.{Ordered, Asked}
 use Rattle.verdict.specs.Conditions.{WrongNotion, verdictConditions, rangeConditions}
 
-pub shown-told : (l : List (List ℕ)) (buffer : List ℕ) → (v : List ℕ) × (firstShown l buffer .told ≡ values v)
+shown-told : (l : List (List ℕ)) (buffer : List ℕ) → (v : List ℕ) × (firstShown l buffer .told ≡ values v)
 shown-told [] buffer = ([], refl)
 shown-told (s ∷ later) buffer = (length s ∷ [], refl)
 
-pub ranked-told : (n : ℕ) (l : List (List ℕ)) (buffer : List ℕ) → (v : List ℕ) × (firstRanked n l buffer .told ≡ values v)
+ranked-told : (n : ℕ) (l : List (List ℕ)) (buffer : List ℕ) → (v : List ℕ) × (firstRanked n l buffer .told ≡ values v)
 ranked-told n [] buffer = ([], refl)
 ranked-told n (s ∷ later) buffer = (length s ∷ rankOf n s ∷ [], refl)
 
