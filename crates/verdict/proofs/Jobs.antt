@@ -1,4 +1,5 @@
 -- A search that is divided over machines answers what one machine would, for any division into jobs.
+--     job-accepts       `job` tells bounds exactly where wires, size and number of jobs are within limits and the job is one of them
 --     job-exactly       a job's answer is that of the range check from floor(i × N / j) up to, without, floor((i + 1) × N / j)
 --     jobs-clean        every job of a size is clean exactly when no set of the size breaks
 --     jobs-either       every job is clean, or a job finds a set and those before it are clean
@@ -12,7 +13,7 @@ use mathlib.Core.Path.{_≡_, refl, sym, _∙_, ap, ap₂, subst}
 use mathlib.Core.Logic.{_⊎_, inl, inr, _↔_}
 use mathlib.Core.Bool.{Bool, true, false}
 use mathlib.Core.List.{List, [], _∷_, _++_}
-use Rattle.limits.specs.Limits.{maxWires}
+use Rattle.limits.specs.Limits.{maxWires, maxSize}
 use Rattle.basics.specs.Folds.{keep}
 use Rattle.basics.specs.Told.{Lent, values}
 use Rattle.basics.proofs.Folds.{keep-append}
@@ -24,6 +25,7 @@ use Rattle.sets.specs.Answers.{jobRanks}
 use Rattle.revolving.proofs.Revolving.{revolving-length, set-at-is-set}
 use Rattle.sets.specs.Division.{start, visited, joined}
 use Rattle.sets.proofs.Division.{start-rises, start-within, jobs-joined}
+use Rattle.sets.proofs.Conditions.{job-settled}
 use Rattle.sets.proofs.Entries.{job-told}
 use Rattle.search.specs.Search.{searched, isBreaking}
 use Rattle.verdict.specs.Answers.{notionOf, firstShown, firstRanked, verdictOf, rangeCheck}
@@ -77,6 +79,21 @@ module _ (test : List ℕ → Bool) (g : ℕ → List (List ℕ)) where
       go (inr less) ih =
           let r = ih less none e in
           (r .0 ++ keep test (g j), parts j ∙ ap {B = List (List ℕ)} (λ l. l ++ keep test (g j)) (r .1))
+
+-- `job` tells bounds exactly where wires, size and number of jobs are within limits and the job is one of them
+pub job-accepts : (n size jobs job : ℕ)
+    → ((l : List ℕ) × (jobRanks n size job jobs ≡ values l)) ↔ ((n ≤ maxWires) × (size ≤ maxSize) × Divided jobs × (job < jobs))
+job-accepts n size jobs job = (there, λ h. (_, job-told n size jobs (h .0) (h .1) (h .2 .some) (h .2 .few) job (h .3)))
+  where
+    there : (l : List ℕ) × (jobRanks n size job jobs ≡ values l) → (n ≤ maxWires) × (size ≤ maxSize) × Divided jobs × (job < jobs)
+    there told =
+        let none = job-settled n size job jobs .answered .0 told in
+        let wires : maxWires < n → ⊥ = none .0 in
+        let sizes : maxSize < size → ⊥ = none .1 .0 in
+        let some : jobs ≡ 0 → ⊥ = λ e. none .1 .1 .0 (inl e) in
+        let few : 65536 < jobs → ⊥ = λ h. none .1 .1 .0 (inr (inl h)) in
+        let one : jobs ≤ job → ⊥ = λ h. none .1 .1 .0 (inr (inr h)) in
+        (omega arith, omega arith, record { some = omega arith; few = omega arith }, omega arith)
 
 -- ---- the answers of the jobs
 
