@@ -14,18 +14,19 @@ use Prim.Native.Nat.{ℕ, _/_, _%_, _≤_, _<_}
 use native.Mathlib.Nat.{zero-lt-suc, mod-lt, div-add-mod'}
 use native.Mathlib.Omega.{arith}
 use mathlib.Core.Path.{_≡_, refl, sym, _∙_, ap, ap₂, subst}
-use mathlib.Core.Bool.{Bool, true, false, cond, _&&_}
+use mathlib.Core.Bool.{Bool, true, false, cond, not, _&&_}
 use mathlib.Core.List.{List, [], _∷_, _++_, append-nil}
-use borrow.Author.Tests.{ltb-true, leb-true, eqb-true, lt-ltb, le-leb, eq-eqb}
+use borrow.Author.Tests.{ltb-true, leb-true, eqb-true, lt-ltb, le-leb, eq-eqb, not-true}
 use lib.Dec.{eqb, ltb, leb}
 use lib.ListN.{length, drop, getD}
 use lib.Seq.{drop-length}
 use Rattle.limits.specs.Limits.{maxShares}
-use Rattle.basics.specs.Folds.{every}
+use Rattle.basics.specs.Folds.{every, upTo}
+use Rattle.basics.proofs.Folds.{every-at}
 use Rattle.basics.proofs.Tests.{and-left, and-right, and-both}
 use Rattle.records.specs.Words.{bit}
 use Rattle.records.specs.Symbols.{Small}
-use Rattle.description.specs.Bytes.{letterS, letterA, letterB, letterR, figure, word, same}
+use Rattle.description.specs.Bytes.{letterS, letterA, letterB, letterR, figure, parts, word, same}
 use Rattle.description.specs.Symbols.{maxMask, shareFigures, shareFigure, shareOf, nameLength, maskName, spelling, formed, symbolLength}
 use Rattle.description.specs.Symbols.{maskAt, shareDigit, productRead, shareRead, namedRead, symbolRead}
 use Rattle.description.specs.Grammar.{member, known, sameSymbol}
@@ -49,8 +50,10 @@ member-low k names low e = leb-true k maxMask (member-every (λ k. leb k maxMask
 
 -- ---- symbols, read
 
+-- by running the test over all shares that a byte can write
 pub share-back : (i : ℕ) → i < shareFigures → shareOf (shareFigure i) ≡ i
-share-back i h = omega arith
+unfolding upTo
+share-back i h = eqb-true (shareOf (shareFigure i)) i (every-at shareFigures i (λ i. eqb (shareOf (shareFigure i)) i) refl h)
 
 share-figure : (n i : ℕ) → n ≤ maxShares → ltb i n ≡ true → (shareDigit n (shareFigure i) ≡ true) × (shareOf (shareFigure i) ≡ i)
 share-figure n i h e =
@@ -175,8 +178,13 @@ spelling-length (Mask k) = name-length k
 word-figure : (i : ℕ) (l w : List ℕ) → i < 10 → word l ≡ w → word (figure i ∷ l) ≡ figure i ∷ w
 word-figure i l w h e = rw (figure-parts i h) (ap {B = List ℕ} (λ w. figure i ∷ w) e)
 
+share-parts : (i : ℕ) → i < shareFigures → parts (shareFigure i) ≡ false
+unfolding upTo
+share-parts i h = not-true (parts (shareFigure i)) (every-at shareFigures i (λ i. not (parts (shareFigure i))) refl h)
+
+-- so is the byte that writes a share
 word-share : (i : ℕ) (l w : List ℕ) → i < shareFigures → word l ≡ w → word (shareFigure i ∷ l) ≡ shareFigure i ∷ w
-word-share = word-figure
+word-share i l w h e = rw (share-parts i h) (ap {B = List ℕ} (λ w. shareFigure i ∷ w) e)
 
 -- a share of the order can be written
 share-formed : (n i : ℕ) → n ≤ maxShares → ltb i n ≡ true → ltb i shareFigures ≡ true

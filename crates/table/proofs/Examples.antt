@@ -1,11 +1,12 @@
 -- Examples, proved by running the definitions: the scope's texts A, B and C as tables, both sides of every limit, the order of the refusals.
 --     record8              a record's 24 bytes: two rows of products, the lowest byte of the masks, shares of a and of b, outer, line
 --     tableA, tableB, tableC      the tables of the scope's texts: 9, 9 and 6 wires
-use Prim.Native.Nat.{ℕ, _+_}
+use Prim.Native.Nat.{ℕ, suc, _+_, _-_, _*_}
 use mathlib.Core.Path.{_≡_, refl}
 use mathlib.Core.Bool.{true, false, xor}
 use mathlib.Core.List.{List, [], _∷_, _++_, map}
 use lib.ListN.{replicate}
+use Rattle.limits.specs.Limits.{minShares, maxShares, maxMasks, recordBytes, maxTableBytes}
 use Rattle.basics.specs.Folds.{upTo}
 use Rattle.basics.specs.Told.{values, refusal}
 use Rattle.wires.specs.declared.Notion.the-variants.{Ni, Sni}
@@ -91,16 +92,19 @@ rows-and-columns = (refl, refl, refl, refl)
 -- ---- the limits
 
 -- 11: shares 2 to 8, masks up to 64
-pub share-limits : (map (λ n. tableCheck [] n 64) (0 ∷ 1 ∷ 2 ∷ 8 ∷ 9 ∷ []) ≡ refusal 11 ∷ refusal 11 ∷ values [] ∷ values [] ∷ refusal 11 ∷ [])
-    × (tableCheck [] 8 65 ≡ refusal 11)
+pub share-limits :
+    (map (λ n. tableCheck [] n maxMasks) (0 ∷ 1 ∷ minShares ∷ maxShares ∷ suc maxShares ∷ [])
+    ≡ refusal 11 ∷ refusal 11 ∷ values [] ∷ values [] ∷ refusal 11 ∷ [])
+    × (tableCheck [] maxShares (suc maxMasks) ≡ refusal 11)
 unfolding upTo
 share-limits = (refl, refl)
 
 -- 12: a multiple of 24, up to 12,288; it wins over a record that 13 would turn down, and 11 over it
 pub length-limits : (tableCheck (record8 4 0 0 0 0 0 0 ++ 0 ∷ []) 2 0 ≡ refusal 12)
     × (map (λ n. tableCheck (replicate n 0) 2 0) (8 ∷ 12 ∷ 23 ∷ 36 ∷ []) ≡ replicate 4 (refusal 12))
-    × (tableCheck (replicate 12312 0) 2 0 ≡ refusal 12) × (tableCheck (replicate 12336 0) 2 0 ≡ refusal 12)
-    × (wrongLength (replicate 12288 0) ≡ false) × (tableCheck (0 ∷ []) 9 0 ≡ refusal 11)
+    × (tableCheck (replicate (maxTableBytes + recordBytes) 0) 2 0 ≡ refusal 12)
+    × (tableCheck (replicate (maxTableBytes + 2 * recordBytes) 0) 2 0 ≡ refusal 12)
+    × (wrongLength (replicate maxTableBytes 0) ≡ false) × (tableCheck (0 ∷ []) (suc maxShares) 0 ≡ refusal 11)
 unfolding upTo
 length-limits = (refl, refl, refl, refl, refl, refl)
 
@@ -116,9 +120,11 @@ unfolding beyond bit upTo
 record-limits = (refl, refl)
 
 -- every bit at the limits themselves; the last mask; the second record is looked at too; bytes 19 to 23 are not
-pub full-records : (tableCheck (replicate 18 255 ++ 1 ∷ 255 ∷ 255 ∷ 255 ∷ 255 ∷ 255 ∷ []) 8 64 ≡ values [])
-    × (tableCheck (replicate 15 0 ++ 128 ∷ replicate 8 0) 8 64 ≡ values []) × (tableCheck (replicate 15 0 ++ 128 ∷ replicate 8 0) 8 63 ≡ refusal 13)
-    × (tableCheck (replicate 7 0 ++ 128 ∷ replicate 16 0) 7 64 ≡ refusal 13) × (tableCheck (replicate 24 0 ++ record8 0 0 0 0 0 2 0) 2 0 ≡ refusal 13)
+pub full-records : (tableCheck (replicate 18 255 ++ 1 ∷ 255 ∷ 255 ∷ 255 ∷ 255 ∷ 255 ∷ []) maxShares maxMasks ≡ values [])
+    × (tableCheck (replicate 15 0 ++ 128 ∷ replicate 8 0) maxShares maxMasks ≡ values [])
+    × (tableCheck (replicate 15 0 ++ 128 ∷ replicate 8 0) maxShares (maxMasks - 1) ≡ refusal 13)
+    × (tableCheck (replicate 7 0 ++ 128 ∷ replicate 16 0) (maxShares - 1) maxMasks ≡ refusal 13)
+    × (tableCheck (replicate recordBytes 0 ++ record8 0 0 0 0 0 2 0) 2 0 ≡ refusal 13)
 unfolding beyond bit upTo
 full-records = (refl, refl, refl, refl, refl)
 
