@@ -17,7 +17,7 @@ use Rattle.limits.specs.Limits.{recordBytes}
 use Rattle.basics.specs.Folds.{oneIf}
 use Rattle.wires.specs.Wires.{Terms}
 use Rattle.records.specs.Layout.{decode, kindOf, lineOf, offsetOf, lengthOf, recordAt, wireCount}
-use Rattle.records.proofs.Encoding.{Fits, length-record, record-kind, record-line, record-offset, record-length, terms-decoded, outer-decoded}
+use Rattle.record_words.proofs.Encoding.{Fits, length-record, record-kind, record-line, record-offset, record-length, terms-decoded, outer-decoded}
 use Rattle.description.specs.Listing.{encode, recordsOf, wireOf}
 use Rattle.description.specs.declared.Listed.{Listed}
 

@@ -18,9 +18,9 @@ use Rattle.basics.proofs.Tests.{and-left, and-right, and-both}
 use Rattle.wires.specs.Wires.{beyond}
 use Rattle.wires.proofs.Narrow.{Within, not-beyond}
 use Rattle.records.specs.Layout.{termsOf}
-use Rattle.records.specs.Symbols.{symbolSum}
+use Rattle.record_words.specs.Symbols.{symbolSum}
 use Rattle.records.specs.declared.sums.Sum.{Sum}
-use Rattle.records.proofs.Encoding as Encoding
+use Rattle.record_words.proofs.Encoding as Encoding
 use Rattle.description.specs.Symbols.{maxMask, symbolLength}
 use Rattle.description.specs.Listing.{symbolWire, madeOuter, outerWire}
 use Rattle.description.specs.Run.{maxText}

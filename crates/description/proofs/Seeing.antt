@@ -14,8 +14,8 @@ use Rattle.basics.proofs.Tests.{and-left, and-right, xor-false, false-xor}
 use Rattle.basics.proofs.Folds.{fold-append}
 use Rattle.records.specs.Layout.{noSum, plusSum}
 use Rattle.records.specs.declared.sums.Sum.{Sum}
-use Rattle.records.specs.Symbols.{symbolSum, isIn}
-use Rattle.records.proofs.Naming.{none-in, symbol-more}
+use Rattle.record_words.specs.Symbols.{symbolSum, isIn}
+use Rattle.record_words.proofs.Naming.{none-in, symbol-more}
 use Rattle.description.specs.Bytes.{same}
 use Rattle.description.specs.Symbols.{maxMask, spelling}
 use Rattle.description.specs.Run.{State, took, opened, closed}

@@ -25,7 +25,7 @@ use Rattle.basics.specs.Folds.{every, upTo}
 use Rattle.basics.proofs.Folds.{every-at}
 use Rattle.basics.proofs.Tests.{and-left, and-right, and-both}
 use Rattle.records.specs.Words.{bit}
-use Rattle.records.specs.Symbols.{Small}
+use Rattle.record_words.specs.Symbols.{Small}
 use Rattle.description.specs.Bytes.{letterS, letterA, letterB, letterR, figure, parts, word, same}
 use Rattle.description.specs.Symbols.{maxMask, shareFigures, shareFigure, shareOf, nameLength, maskName, spelling, formed, symbolLength}
 use Rattle.description.specs.Symbols.{maskAt, shareDigit, productRead, shareRead, namedRead, symbolRead}

@@ -22,9 +22,9 @@ use Rattle.wires.specs.Wires.{none, plus}
 use Rattle.wires.proofs.Units.{symbolTerms}
 use Rattle.wires.proofs.Narrow.{Within, within-none, within-plus}
 use Rattle.records.specs.Layout.{termsOf, noSum, plusSum}
-use Rattle.records.specs.Symbols.{symbolSum}
-use Rattle.records.proofs.Naming.{none-means, plus-means, symbol-means, sum-assoc}
-use Rattle.records.proofs.Encoding.{Fits, none-fits, plus-fits, symbol-fits}
+use Rattle.record_words.specs.Symbols.{symbolSum}
+use Rattle.record_words.proofs.Naming.{none-means, plus-means, symbol-means, sum-assoc}
+use Rattle.record_words.proofs.Encoding.{Fits, none-fits, plus-fits, symbol-fits}
 use Rattle.description.specs.Symbols.{maxMask}
 use Rattle.description.specs.Grammar.{member, known, sumOf, maskCount}
 use Rattle.description.proofs.Numbers.{larger-max}

@@ -16,7 +16,7 @@ use Rattle.wires.specs.Wires.{Wire}
 use Rattle.wires.proofs.Narrow.{Within, within}
 use Rattle.records.specs.Layout.{decode, kindOf, offsetOf, lengthOf, recordAt, wireAt, wireCount, wires, noSum}
 use Rattle.records.proofs.Bytes.{wires-none, wires-more}
-use Rattle.records.proofs.Encoding.{kind-low}
+use Rattle.record_words.proofs.Encoding.{kind-low}
 use Rattle.table.specs.Answers.{tableCheck}
 use Rattle.table.proofs.Conditions.{Sound, accepted-exactly}
 use Rattle.description.specs.Listing.{encode, recordsOf, wireOf}

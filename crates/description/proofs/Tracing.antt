@@ -10,8 +10,8 @@ use Rattle.limits.specs.Limits.{maxShares}
 use Rattle.basics.specs.Folds.{some, every}
 use Rattle.basics.proofs.Tests.{and-left, and-right}
 use Rattle.records.specs.Layout.{plusSum}
-use Rattle.records.specs.Symbols.{isIn, symbolSum}
-use Rattle.records.proofs.Naming.{sum-none}
+use Rattle.record_words.specs.Symbols.{isIn, symbolSum}
+use Rattle.record_words.proofs.Naming.{sum-none}
 use Rattle.records.specs.declared.sums.Sum.{Sum}
 use Rattle.description.specs.Symbols.{maxMask}
 use Rattle.description.specs.Listing.{symbolWire, additionWire, emptyGroup}

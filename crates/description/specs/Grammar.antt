@@ -35,7 +35,7 @@ use Rattle.basics.specs.Folds.{fold, some, every}
 use Rattle.wires.specs.declared.Symbol.{Symbol}
 use Rattle.wires.specs.declared.Symbol.the-variants.{Product, ShareA, ShareB, Mask}
 use Rattle.records.specs.Layout.{noSum, plusSum}
-use Rattle.records.specs.Symbols.{symbolSum}
+use Rattle.record_words.specs.Symbols.{symbolSum}
 use Rattle.records.specs.declared.sums.Sum.{Sum}
 use Rattle.description.specs.Bytes.{space, lineEnd, opening, closing, comma, bracket, orderWord, masksWord, figure, word, ended, same}
 use Rattle.description.specs.Symbols.{maxMask, symbolLength, maskName, spelling, formed}

@@ -12,8 +12,8 @@ use mathlib.Core.Bool.{true, false, cond}
 use mathlib.Core.List.{List, [], _∷_, _++_}
 use Rattle.wires.specs.Wires.{Wire}
 use Rattle.records.specs.Layout.{termsOf, noSum, plusSum}
-use Rattle.records.specs.Symbols.{symbolSum}
-use Rattle.records.specs.Writing.{recordOf}
+use Rattle.record_words.specs.Symbols.{symbolSum}
+use Rattle.record_words.specs.Writing.{recordOf}
 use Rattle.description.specs.Symbols.{symbolLength}
 use Rattle.description.specs.declared.Listed.{Listed}
 use Rattle.description.specs.declared.Item.{Item}

@@ -28,7 +28,7 @@ use lib.Dec.{eqb, ltb}
 use lib.ListN.{length, drop}
 use Rattle.wires.specs.declared.Symbol.{Symbol}
 use Rattle.records.specs.Layout.{noSum, plusSum}
-use Rattle.records.specs.Symbols.{symbolSum, isIn}
+use Rattle.record_words.specs.Symbols.{symbolSum, isIn}
 use Rattle.records.specs.declared.sums.Sum.{Sum}
 use Rattle.description.specs.Bytes.{space, lineEnd, opening, closing, bar, word}
 use Rattle.description.specs.Symbols.{symbolLength, symbolRead}

@@ -9,9 +9,9 @@ use lib.ListN.{length, take, drop, length-append, length-reverse}
 use lib.Seq.{sets, sets-eq, take-at, length-take-le}
 use Rattle.limits.specs.Limits.{maxWires, recordBytes, maxTableBytes}
 use Rattle.records.specs.Layout.{outerAt}
-use Rattle.records.specs.Writing.{recordOf, outerBytes}
-use Rattle.records.proofs.Encoding.{made-outer}
-use Rattle.records.proofs.Written.{take-sets, sets-right}
+use Rattle.record_words.specs.Writing.{recordOf, outerBytes}
+use Rattle.record_words.proofs.Encoding.{made-outer}
+use Rattle.record_words.proofs.Written.{take-sets, sets-right}
 use Rattle.description.specs.Listing.{encode, recordsOf, madeOuter}
 use Rattle.description.specs.declared.Listed.{Listed}
 use Rattle.description.proofs.Encoding.{length-encode, length-records, records-append}

@@ -17,7 +17,7 @@ use Rattle.basics.specs.Folds.{oneIf}
 use Rattle.wires.specs.declared.Symbol.{Symbol}
 use Rattle.wires.specs.declared.Symbol.the-variants.{Product, ShareA, ShareB, Mask}
 use Rattle.records.specs.Layout.{plusSum}
-use Rattle.records.specs.Symbols.{symbolSum, isIn}
+use Rattle.record_words.specs.Symbols.{symbolSum, isIn}
 use Rattle.records.specs.declared.sums.Sum.{Sum}
 use Rattle.description.specs.Symbols.{symbolLength}
 use Rattle.description.specs.Listing.{symbolWire, madeOuter, outerWire, emptyGroup, additionWire}

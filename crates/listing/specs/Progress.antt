@@ -12,7 +12,7 @@ use lib.ListN.{length, take}
 use Rattle.limits.specs.Limits.{maxWires, recordBytes}
 use Rattle.basics.specs.Folds.{oneIf}
 use Rattle.records.specs.Layout.{plusSum}
-use Rattle.records.specs.Symbols.{symbolSum, isIn}
+use Rattle.record_words.specs.Symbols.{symbolSum, isIn}
 use Rattle.description.specs.Listing.{recordsOf, putInto, emptyGroup}
 use Rattle.description.specs.Run.{Around, State, symbolItem, newestOuter}
 use Rattle.description.specs.declared.PlacedSymbol.{PlacedSymbol}

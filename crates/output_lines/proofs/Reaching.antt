@@ -21,7 +21,7 @@ use Rattle.basics.proofs.Tests.{and-left, and-right}
 use Rattle.wires.specs.declared.Symbol.{Symbol}
 use Rattle.wires.specs.declared.Symbol.the-variants.{Product, ShareA, ShareB, Mask}
 use Rattle.records.specs.Words.{bit}
-use Rattle.records.specs.Symbols.{isIn, Small}
+use Rattle.record_words.specs.Symbols.{isIn, Small}
 use Rattle.description.specs.Bytes.{letterS, letterA, letterB, parts, word}
 use Rattle.description.specs.Symbols.{nameLength, maskAt, shareDigit, productRead, shareRead, namedRead, symbolRead, symbolLength}
 use Rattle.records.specs.Layout.{plusSum}

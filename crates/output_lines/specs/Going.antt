@@ -16,7 +16,7 @@ use lib.Dec.{ltb}
 use lib.ListN.{length, getD}
 use Rattle.limits.specs.Limits.{maxShares, maxTableBytes}
 use Rattle.records.specs.Layout.{noSum}
-use Rattle.records.specs.Symbols.{Small}
+use Rattle.record_words.specs.Symbols.{Small}
 use Rattle.description.specs.Bytes.{space, lineEnd, closing}
 use Rattle.description.specs.Listing.{emptyGroup}
 use Rattle.description.specs.Run.{Around, State, start, done, refused, runAt, maxText, maxDepth}

@@ -9,7 +9,7 @@ use limits::MAX_SHARES;
 use limits::MAX_TABLE_BYTES;
 use limits::MIN_SHARES;
 use limits::RECORD_BYTES;
-use records::functions;
+use record_words::functions;
 use records::sums;
 
 mod tests;

@@ -6,9 +6,9 @@ ghost use Rattle.basics.specs.Folds.{some, upTo};
 ghost use Rattle.records.specs.Layout.{wireCount, recordAt};
 ghost use Rattle.table.specs.Answers.{wrongRecord};
 use limits::RECORD_BYTES;
+use record_words::tests::is_within;
 use records::layout::OUTER_AT;
 use records::sums::wire_record;
-use records::tests::is_within;
 
 // Whether a record has no bit beyond the shares and masks, and byte 18 is 0 or 1.
 fn record_fits(table: &[u8], wire: usize, shares: usize, masks: usize) -> bool
