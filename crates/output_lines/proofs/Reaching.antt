@@ -15,7 +15,7 @@ use borrow.Author.Tests.{ltb-true, eqb-true, ne-eqb}
 use lib.Dec.{eqb}
 use lib.ListN.{length, take, drop, getD, length-drop}
 use lib.Seq.{take-at, length-take-le}
-use Rattle.limits.specs.Limits.{maxShares}
+use Rattle.limits.specs.Limits.{maxShares, maxMasks}
 use Rattle.basics.specs.Folds.{oneIf}
 use Rattle.basics.proofs.Tests.{and-left, and-right}
 use Rattle.wires.specs.declared.Symbol.{Symbol}
@@ -23,7 +23,7 @@ use Rattle.wires.specs.declared.Symbol.the-variants.{Product, ShareA, ShareB, M
 use Rattle.records.specs.Words.{bit}
 use Rattle.record_words.specs.Symbols.{isIn, Small}
 use Rattle.description.specs.Bytes.{letterS, letterA, letterB, parts, word}
-use Rattle.description.specs.Symbols.{nameLength, maskAt, shareDigit, productRead, shareRead, namedRead, symbolRead, symbolLength}
+use Rattle.description.specs.Symbols.{nameLength, maskAt, shareDigit, productRead, shareRead, namedRead, symbolRead, symbolLength, shareOf}
 use Rattle.records.specs.Layout.{plusSum}
 use Rattle.description.specs.Listing.{putInto}
 use Rattle.description.specs.Run.{State, runAt, placed, took, symbolItem}
@@ -55,8 +55,8 @@ fewer {table} {p} {s} {shares} h less = ne-eqb (s .lines) shares (λ e. omega (a
 no-symbol : {A : Type 0} {s : Symbol} → NoSuch ≡ Known s → A
 no-symbol e = let z : _≡_ {A = ℕ} 0 1 = cc in absurd (omega (arith, z))
 
-low-digit : (n c : ℕ) → n ≤ maxShares → shareDigit n c ≡ true → c - 48 < maxShares
-low-digit n c h e = omega (arith, ltb-true (c - 48) n (figure-share n c e .1), h)
+low-digit : (n c : ℕ) → n ≤ maxShares → shareDigit n c ≡ true → shareOf c < maxShares
+low-digit n c h e = omega (arith, ltb-true (shareOf c) n (figure-share n c e .1), h)
 
 module _ (n : ℕ) (few : n ≤ maxShares) where
   known-product : (c : ℕ) (w : List ℕ) (s : Symbol) → productRead n w ≡ Known s → (length (c ∷ w) ≡ symbolLength s) × Small s
@@ -64,10 +64,10 @@ module _ (n : ℕ) (few : n ≤ maxShares) where
   known-product c (i ∷ []) s e = no-symbol e
   known-product c (i ∷ j ∷ []) s e = go (shareDigit n i && shareDigit n j) refl e
     where
-      go : (b : Bool) → (shareDigit n i && shareDigit n j) ≡ b → cond b (Known (Product (i - 48) (j - 48))) NoSuch ≡ Known s
+      go : (b : Bool) → (shareDigit n i && shareDigit n j) ≡ b → cond b (Known (Product (shareOf i) (shareOf j))) NoSuch ≡ Known s
           → (3 ≡ symbolLength s) × Small s
       go true t e =
-          let f : Product (i - 48) (j - 48) ≡ s = cc in (
+          let f : Product (shareOf i) (shareOf j) ≡ s = cc in (
             ap symbolLength f,
             subst Small f (
               low-digit n i few (and-left (shareDigit n i) (shareDigit n j) t),
@@ -83,9 +83,9 @@ module _ (n : ℕ) (few : n ≤ maxShares) where
   known-share share two small c [] s e = no-symbol e
   known-share share two small c (i ∷ []) s e = go (shareDigit n i) refl e
     where
-      go : (b : Bool) → shareDigit n i ≡ b → cond b (Known (share (i - 48))) NoSuch ≡ Known s → (2 ≡ symbolLength s) × Small s
+      go : (b : Bool) → shareDigit n i ≡ b → cond b (Known (share (shareOf i))) NoSuch ≡ Known s → (2 ≡ symbolLength s) × Small s
       go true t e =
-          let f : share (i - 48) ≡ s = cc in (two (i - 48) ∙ ap symbolLength f, subst Small f (small (i - 48) (low-digit n i few t)))
+          let f : share (shareOf i) ≡ s = cc in (two (shareOf i) ∙ ap symbolLength f, subst Small f (small (shareOf i) (low-digit n i few t)))
       go false t e = no-symbol e
   known-share share two small c (i ∷ j ∷ l) s e = no-symbol e
 
@@ -106,7 +106,7 @@ known-mask declared w s e = go (maskAt w) refl e
             there true e =
                 let f : Mask k ≡ s = cc in
                 let low = read-name w k m .low in
-                let less : k < 64 = omega (arith, low) in
+                let less : k < maxMasks = omega (arith, low) in
                 (eqb-true (length w) (nameLength k) t ∙ ap symbolLength f, subst Small f less)
             there false e = let z : _≡_ {A = ℕ} 0 1 = cc in absurd (omega (arith, z))
 

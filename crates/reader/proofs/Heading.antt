@@ -14,7 +14,7 @@ use lib.ListN.{length, drop, drop-of-length-le, length-reverse}
 use lib.Seq.{drop-length}
 use Rattle.limits.specs.Limits.{maxOrder}
 use Rattle.description.specs.Header.{orderLine, masksLine}
-use Rattle.description.specs.Run.{Reading, refused, turnedDown, start, runAt, listed, secondLine, afterMasks, afterOrder, reading, maxText}
+use Rattle.description.specs.Run.{Reading, refused, turnedDown, start, runAt, listed, secondLine, afterMasks, afterOrder, reading, maxText, secondAt}
 use Rattle.description.specs.declared.Masks.{Masks}
 use Rattle.description.specs.declared.OrderLine.{OrderLine}
 use Rattle.description.specs.declared.MasksLine.{MasksLine}
@@ -51,27 +51,27 @@ absent : (at : ℕ) → masksLine at [] ≡ MasksLine.Wrong
 unfolding masksLine
 absent at = refl
 
-pub second-line : (text : List ℕ) (from : ℕ) → from ≡ secondLine text → masksLine from (drop from text) ≡ masksLine 10 (drop 10 text)
-second-line text from e = ap (λ (k : ℕ). masksLine k (drop k text)) e ∙ go (ltb (length text) 10) refl
+pub second-line : (text : List ℕ) (from : ℕ) → from ≡ secondLine text → masksLine from (drop from text) ≡ masksLine secondAt (drop secondAt text)
+second-line text from e = ap (λ (k : ℕ). masksLine k (drop k text)) e ∙ go (ltb (length text) secondAt) refl
   where
-    go : (b : Bool) → ltb (length text) 10 ≡ b
-        → masksLine (cond b (length text) 10) (drop (cond b (length text) 10) text) ≡ masksLine 10 (drop 10 text)
+    go : (b : Bool) → ltb (length text) secondAt ≡ b
+        → masksLine (cond b (length text) secondAt) (drop (cond b (length text) secondAt) text) ≡ masksLine secondAt (drop secondAt text)
     go true f =
-        let less = ltb-true (length text) 10 f in
+        let less = ltb-true (length text) secondAt f in
         ap (masksLine (length text)) (drop-length text) ∙ absent (length text)
-        ∙ sym (ap (masksLine 10) (drop-of-length-le text {i = 10} (omega (arith, less))) ∙ absent 10)
+        ∙ sym (ap (masksLine secondAt) (drop-of-length-le text {i = secondAt} (omega (arith, less))) ∙ absent secondAt)
     go false f = refl
 
 pub second-inside : (text : List ℕ) (from : ℕ) → from ≡ secondLine text → from ≤ length text
-second-inside text from e = subst (λ (k : ℕ). k ≤ length text) (sym e) (go (ltb (length text) 10) refl)
+second-inside text from e = subst (λ (k : ℕ). k ≤ length text) (sym e) (go (ltb (length text) secondAt) refl)
   where
-    go : (b : Bool) → ltb (length text) 10 ≡ b → cond b (length text) 10 ≤ length text
+    go : (b : Bool) → ltb (length text) secondAt ≡ b → cond b (length text) secondAt ≤ length text
     go true f = omega arith
-    go false f = ltb-false (length text) 10 f
+    go false f = ltb-false (length text) secondAt f
 
 module _ (text : List ℕ) (order from : ℕ) (line : MasksLine) (start-there : from ≡ secondLine text) (e : line ≡ masksLine from (drop from text)) where
   -- what was read as the second line
-  there : line ≡ masksLine 10 (drop 10 text)
+  there : line ≡ masksLine secondAt (drop secondAt text)
   there = e ∙ second-line text from start-there
 
   pub second-wrong : (scratch : List ℕ) → line ≡ MasksLine.Wrong → SecondReads text order scratch (ReadAnswer.Refused WrongMasksLine from)

@@ -23,7 +23,7 @@ use Rattle.reader.proofs.Conditions.{part-chain, part-settled}
 use Rattle.reader.specs.Answers.{partRefusalNumber, partChecked, partCheck, textPart, partStart}
 use Rattle.reader.specs.declared.PartRefusal.{PartRefusal}
 
-short-small : (table : List ℕ) (wire at : ℕ) → Bytes table → wire < wireCount table → at + 2 ≤ 24 → field at 2 (recordAt table wire) < 65536
+short-small : (table : List ℕ) (wire at : ℕ) → Bytes table → wire < wireCount table → at + 2 ≤ recordBytes → field at 2 (recordAt table wire) < 65536
 short-small table wire at bytes inside h =
     let r = record-inside table wire inside in
     let two = two-bytes table (recordBytes * wire + at) (getD table (recordBytes * wire + at) 0) (getD table (recordBytes * wire + at + 1) 0) (omega (arith, r, h)) refl refl in

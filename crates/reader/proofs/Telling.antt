@@ -148,7 +148,7 @@ module _ (text table : List ℕ) where
     few-wires = subst (λ (ws : List Listed). length ws ≤ maxWires) same-list (g .few)
 
     multiple : (n : ℕ) → recordBytes * n % recordBytes ≡ 0
-    multiple n = ap (λ (k : ℕ). k % recordBytes) (mul-comm 24 n) ∙ mul-mod-left n 24
+    multiple n = ap (λ (k : ℕ). k % recordBytes) (mul-comm recordBytes n) ∙ mul-mod-left n recordBytes
 
     parts : (before after : List Listed) (w : Listed) → wiresOf d ≡ before ++ w ∷ after
         → partCheck text (recordsOf (wiresOf d)) (length before) ≡ values (w .offset ∷ w .length ∷ [])

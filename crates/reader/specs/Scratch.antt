@@ -9,7 +9,7 @@ use lib.ListN.{length, take, drop}
 use Rattle.limits.specs.Limits.{maxWires, recordBytes}
 use Rattle.description.specs.Listing.{recordsOf}
 use Rattle.description.specs.Header.{masksLine}
-use Rattle.description.specs.Run.{start, runAt, Reading, read, turnedDown, listed, afterMasks, reading}
+use Rattle.description.specs.Run.{start, runAt, secondAt, Reading, read, turnedDown, listed, afterMasks, reading}
 use Rattle.description.specs.declared.Listed.{Listed}
 use Rattle.description.specs.declared.Masks.{Masks}
 use Rattle.reader.specs.declared.ReadAnswer.{ReadAnswer}
@@ -31,7 +31,7 @@ abbrev pub LinesListed : List ℕ → ℕ → Masks → List ℕ → ReadAnswer 
 LinesListed text order m = OutcomeRead (listed order (m .count) (runAt (order + 1) (m .declared) text (m .end) start))
 
 abbrev pub SecondReads : List ℕ → ℕ → List ℕ → ReadAnswer → Type 0
-SecondReads text order = OutcomeRead (afterMasks text order (masksLine 10 (drop 10 text)))
+SecondReads text order = OutcomeRead (afterMasks text order (masksLine secondAt (drop secondAt text)))
 
 abbrev pub ScratchReads : List ℕ → List ℕ → ReadAnswer → Type 0
 ScratchReads text = OutcomeRead (reading text)

@@ -27,7 +27,7 @@ returns-3 c =
     simp (
       eq-eqb (length (a .table .now) % recordBytes) 0 (omega arith),
       le-ltb maxTableBytes (length (a .table .now)) (omega arith),
-      le-leb (length (a .table .now) / 24) (a .wire) (c .if3 .taken),
+      le-leb (length (a .table .now) / recordBytes) (a .wire) (c .if3 .taken),
     )
 
 text-place-requires : tie.Need-text-place-requires
@@ -49,7 +49,7 @@ returns-4 c =
     simp (
       eq-eqb (length (a .table .now) % recordBytes) 0 (omega arith),
       le-ltb maxTableBytes (length (a .table .now)) (omega arith),
-      lt-leb (length (a .table .now) / 24) (a .wire) (c .before .before .before .if3 .left),
+      lt-leb (length (a .table .now) / recordBytes) (a .wire) (c .before .before .before .if3 .left),
       lt-ltb (length (a .text .now)) (offsetOf r + lengthOf r) (omega (arith, place .1, place .2, c .if4 .taken)),
     )
 
