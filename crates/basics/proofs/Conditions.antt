@@ -5,6 +5,8 @@
 --     passed, settles            what a chain of any kind of answer tells, where its own answer tells values
 --     settles-told, own-told, settles-lent     the two kinds of answer; values that are told are the operation's own
 --     one-answer                 where conditions are settled, one of them is the first that holds, or none holds
+--     earlier-wins               a condition that holds wins over all after it
+--     told-first, told-some      the refusal told is that of the first condition that holds, and one does
 --     less, least, equal         the tests on two numbers decide
 --     one-of, one-of-three, one-of-four, both, fails, neither, not-both, some-decides     tests that are put together decide what is put together
 --     not-less, not-least        the tests on two numbers, the other way round
@@ -24,6 +26,11 @@ use Rattle.basics.proofs.Folds.{some-at, some-where}
 
 -- ---- the chain
 
+-- a condition that holds wins over all after it
+pub earlier-wins : {number n : ℕ} {holds : Type 0} (later : List Condition) → holds → First (number when holds ∷ later) n → number ≡ n
+earlier-wins later h (inl f) = f .1
+earlier-wins later h (inr f) = absurd (f .0 h)
+
 module _ {A : Type 0} (refuse : ℕ → A) (answer : A) where
   pub record Chain (conditions : List Condition) (chain : A) : Type 0 where
     pub first : (n : ℕ) → First conditions n → chain ≡ refuse n
@@ -39,8 +46,7 @@ module _ {A : Type 0} {refuse : ℕ → A} {answer : A} where
   test {b} {holds} {later} {rest} number decides chain = go b decides
     where
       due : holds → (n : ℕ) → First (number when holds ∷ later) n → refuse number ≡ refuse n
-      due h n (inl f) = ap refuse (f .1)
-      due h n (inr f) = absurd (f .0 h)
+      due h n f = ap refuse (earlier-wins later h f)
 
       goes-on : (holds → ⊥) → (n : ℕ) → First (number when holds ∷ later) n → rest ≡ refuse n
       goes-on h n (inl f) = absurd (h (f .0))
@@ -106,6 +112,13 @@ pub one-answer : {conditions : List Condition} (told : Told) → Settles conditi
     → ((n : ℕ) × (told ≡ refusal n) × First conditions n) ⊎ ((l : List ℕ) × (told ≡ values l) × None conditions)
 one-answer (values l) s = inr (l, refl, s .answered .0 (l, refl))
 one-answer (refusal n) s = inl (n, refl, s .refused n .0 refl)
+
+-- where a refusal is told, the first condition that holds is its own, and some condition holds
+pub told-first : {conditions : List Condition} (m n : ℕ) → Settles conditions (refusal m) → First conditions n → m ≡ n
+told-first m n s f = let e : refusal m ≡ refusal n = s .refused n .1 f in cc
+
+pub told-some : {conditions : List Condition} (m : ℕ) → Settles conditions (refusal m) → None conditions → ⊥
+told-some m s none = let v = s .answered .1 none in values-refusal (v .0) m (sym (v .1))
 
 -- ---- what the tests decide
 

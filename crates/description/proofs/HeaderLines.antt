@@ -1,10 +1,13 @@
 -- The two header lines, as they are spelled and as they are read.
+--     FirstLine          the first line is `ORDER = ` and one digit, and ends there
+--     order-exactly      it gives an order exactly when it is so
 --     HeaderRead         what two header lines that are read give, and that they are spelled so
 --     header-spelled     what is read as the two header lines is spelled so
 --     header-read        the two header lines, as they are spelled, are read
 use Prim.Native.Nat.{ℕ, _+_, _-_, _≤_}
 use native.Mathlib.Omega.{arith}
 use mathlib.Core.Path.{_≡_, refl, sym, _∙_, ap, ap₂, subst}
+use mathlib.Core.Logic.{_↔_}
 use mathlib.Core.Bool.{Bool, true, false, cond, _&&_, _||_}
 use mathlib.Core.List.{List, [], _∷_, _++_, append-assoc}
 use borrow.Author.Tests.{leb-true, le-leb, eqb-true}
@@ -99,22 +102,23 @@ masks-spelled l m e = go (same (take 9 l) masksWord) refl e
 
 -- ---- the first line
 
-record OrderSpelled (text : List ℕ) (order : ℕ) : Type 0 where
-  rest : List ℕ
-  digit : (1 ≤ order) × (order ≤ maxOrder)
-  spelled : text ≡ orderWord ++ (figure order ∷ rest)
-  line-end : ended rest ≡ true
+-- "exactly `ORDER = ` and one digit 1 to 7", and then the line's end
+pub record FirstLine (text : List ℕ) (order : ℕ) : Type 0 where
+  pub rest : List ℕ
+  pub digit : (1 ≤ order) × (order ≤ maxOrder)
+  pub spelled : text ≡ orderWord ++ (figure order ∷ rest)
+  pub line-end : ended rest ≡ true
 
-order-spelled : (text : List ℕ) (order : ℕ) → orderLine text ≡ OrderLine.Order order → OrderSpelled text order
+order-spelled : (text : List ℕ) (order : ℕ) → orderLine text ≡ OrderLine.Order order → FirstLine text order
 unfolding orderLine
 order-spelled text order e = go (same (take 8 text) orderWord) refl e
   where
-    digit-spelled : text ≡ orderWord ++ drop 8 text → (l : List ℕ) → drop 8 text ≡ l → orderDigit l ≡ OrderLine.Order order → OrderSpelled text order
+    digit-spelled : text ≡ orderWord ++ drop 8 text → (l : List ℕ) → drop 8 text ≡ l → orderDigit l ≡ OrderLine.Order order → FirstLine text order
     digit-spelled w [] p e = let z : _≡_ {A = ℕ} 0 1 = cc in absurd (omega (arith, z))
     digit-spelled w (c ∷ l) p e = test (leb (figure 1) c && leb c (figure maxOrder) && ended l) refl e
       where
         test : (b : Bool) → (leb (figure 1) c && leb c (figure maxOrder) && ended l) ≡ b → cond b (OrderLine.Order (c - 48)) OrderLine.Wrong ≡ OrderLine.Order order
-            → OrderSpelled text order
+            → FirstLine text order
         test false q e = let z : _≡_ {A = ℕ} 0 1 = cc in absurd (omega (arith, z))
         test true q e =
             let both = and-left (leb (figure 1) c && leb c (figure maxOrder)) (ended l) q in
@@ -130,7 +134,7 @@ order-spelled text order e = go (same (take 8 text) orderWord) refl e
             }
 
     go : (b : Bool) → same (take 8 text) orderWord ≡ b → cond b (orderDigit (drop 8 text)) OrderLine.Wrong ≡ OrderLine.Order order
-        → OrderSpelled text order
+        → FirstLine text order
     go false q e = let z : _≡_ {A = ℕ} 0 1 = cc in absurd (omega (arith, z))
     go true q e =
         digit-spelled (sym (take-append-drop 8 text) ∙ ap (λ w. w ++ drop 8 text) (same-bytes (take 8 text) orderWord q)) (drop 8 text) refl e
@@ -153,13 +157,18 @@ both-lines : (order : ℕ) (names rest : List ℕ)
 both-lines order names rest =
     ap (λ t. orderWord ++ (figure order ∷ lineEnd ∷ (masksWord ++ t))) (append-assoc (joined names) (bracket ∷ []) rest)
 
-order-read : (order : ℕ) (t : List ℕ) → 1 ≤ order → order ≤ maxOrder → orderLine (orderWord ++ (figure order ∷ lineEnd ∷ t)) ≡ OrderLine.Order order
+order-read : (order : ℕ) (rest : List ℕ) → 1 ≤ order → order ≤ maxOrder → ended rest ≡ true
+    → orderLine (orderWord ++ (figure order ∷ rest)) ≡ OrderLine.Order order
 unfolding orderLine
-order-read order t h l =
+order-read order rest h l line-end =
     let from = le-leb (figure 1) (figure order) (omega (arith, h)) in
     let to = le-leb (figure order) (figure maxOrder) (omega (arith, l)) in
     let back : figure order - 48 ≡ order = omega arith in
-    rw (from, to) (ap OrderLine.Order back)
+    rw (from, to, line-end) (ap OrderLine.Order back)
+
+pub order-exactly : (text : List ℕ) (order : ℕ) → (orderLine text ≡ OrderLine.Order order) ↔ FirstLine text order
+order-exactly text order =
+    (order-spelled text order, λ f. ap orderLine (f .spelled) ∙ order-read order (f .rest) (f .digit .0) (f .digit .1) (f .line-end))
 
 module _ (text : List ℕ) (order : ℕ) (names rest : List ℕ) (digit : (1 ≤ order) × (order ≤ maxOrder)) (low : every (λ k. leb k maxMask) names ≡ true)
     (new : freshIn 0 names ≡ true) (whole : text ≡ headerText order names ++ rest) (line-end : ended rest ≡ true) where
@@ -183,7 +192,7 @@ pub header-spelled : (text : List ℕ) (order : ℕ) (m : Masks) → orderLine t
     → masksLine secondAt (drop secondAt text) ≡ MasksLine.Declared m → (names : List ℕ) × HeaderRead text order m names
 header-spelled text order m e f = go (first .rest) refl
   where
-    first : OrderSpelled text order
+    first : FirstLine text order
     first = order-spelled text order e
 
     second : (t : List ℕ) × (drop secondAt text ≡ masksWord ++ t) × ListSpelled t m
@@ -216,7 +225,7 @@ header-read text order names digit low alone header header-end =
     let whole : text ≡ headerText order names ++ rest = sym (take-append-drop (length (headerText order names)) text) ∙ ap (λ w. w ++ rest) header in
     let parts = whole ∙ both-lines order names rest in
     let new : freshIn 0 names ≡ true = fresh-once names ∙ alone in (
-      ap orderLine parts ∙ order-read order (masksWord ++ (joined names ++ (bracket ∷ rest))) (digit .0) (digit .1),
+      ap orderLine parts ∙ order-read order (lineEnd ∷ (masksWord ++ (joined names ++ (bracket ∷ rest)))) (digit .0) (digit .1) refl,
       (
         lineMasks names,
         (

@@ -24,6 +24,7 @@
 --     Found         the output lines that a text spells, where the run is done
 --     Unique        a text spells one description
 --     Exactly       a text is read exactly when it spells a description within the limits
+--     Turning       a text that is turned down before its output lines are read
 --     Samples       examples, proved by running the definitions
 pub mod Running
 pub mod Places
@@ -50,4 +51,5 @@ pub mod Ends
 pub mod Found
 pub mod Unique
 pub mod Exactly
+pub mod Turning
 pub mod Samples

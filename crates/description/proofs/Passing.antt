@@ -6,21 +6,23 @@
 --     at-closing, not-open, nothing-inside     at a parenthesis closed
 --     at-bar                     at a bar
 --     at-symbol, no-such, not-declared         at a byte of a symbol
-use Prim.Native.Nat.{ℕ, _+_, _-_, _<_}
+--     open-at-end, few-at-end, done-at-end     at the text's end: a parenthesis still open, lines too few, neither
+use Prim.Native.Nat.{ℕ, _+_, _-_, _≤_, _<_}
 use native.Mathlib.Omega.{arith}
 use mathlib.Core.Path.{_≡_, sym, _∙_, ap}
 use mathlib.Core.Bool.{Bool, true, false, cond}
 use mathlib.Core.List.{List, [], _∷_}
-use lib.Dec.{eqb}
+use borrow.Author.Tests.{lt-ltb, le-ltb}
+use lib.Dec.{eqb, ltb}
 use lib.ListN.{length, drop, getD, length-drop}
 use Rattle.description.specs.Bytes.{space, lineEnd, opening, closing, bar, parts, word}
 use Rattle.description.specs.Symbols.{symbolRead}
-use Rattle.description.specs.Run.{State, Around, refused, runAt, maxDepth, placed, took, opened, closed}
+use Rattle.description.specs.Run.{State, Around, done, refused, runAt, finish, maxDepth, placed, took, opened, closed}
 use Rattle.description.specs.Run.{go, stop, step, lineStep, lineDone, closeStep, symbolStep}
 use Rattle.wires.specs.declared.Symbol.{Symbol}
 use Rattle.description.specs.declared.SymbolAnswer.{SymbolAnswer}
 use Rattle.description.specs.declared.Refusal.the-variants.{NoSuchSymbol, MaskNotDeclared, WrongParenthesis, Bar, NestedTooDeep, WrongLineCount}
-use Rattle.description.proofs.Running.{drop-byte, run-go, run-stop}
+use Rattle.description.proofs.Running.{drop-byte, run-go, run-stop, run-end}
 use Rattle.description.proofs.Places.{word-inside}
 use Rattle.description.proofs.Steps.{step-space, step-line, step-over, step-open, step-bar, step-close, step-symbol}
 
@@ -115,3 +117,23 @@ module _ (shares declared : ℕ) (text : List ℕ) (p : ℕ) (s : State) (inside
       pub not-declared : symbolRead shares declared (word (drop p text)) ≡ SymbolAnswer.NotDeclared
           → runAt shares declared text p s ≡ refused MaskNotDeclared p
       not-declared e = run-stop shares declared text p s inside MaskNotDeclared (symbol-step SymbolAnswer.NotDeclared e)
+
+-- the text's end is a line's end
+module _ (shares declared : ℕ) (text : List ℕ) (p : ℕ) (s : State) (outside : length text ≤ p) where
+  pub open-at-end : (g : Around) (around : List Around) → s .around ≡ g ∷ around → runAt shares declared text p s ≡ refused WrongParenthesis p
+  open-at-end g around f = run-end shares declared text p s outside ∙ ap (λ around. finish shares p (lineStep around s)) f
+
+  abbrev ended-line : State
+  ended-line = cond (s .group .filled) (lineDone s) s
+
+  closed-end : (few : Bool) → s .around ≡ [] → ltb (ended-line .lines) shares ≡ few
+      → runAt shares declared text p s ≡ cond few (refused WrongLineCount p) (done ended-line)
+  closed-end few f e =
+      run-end shares declared text p s outside ∙ ap (λ around. finish shares p (lineStep around s)) f
+      ∙ ap (λ (b : Bool). cond b (refused WrongLineCount p) (done ended-line)) e
+
+  pub few-at-end : s .around ≡ [] → ended-line .lines < shares → runAt shares declared text p s ≡ refused WrongLineCount p
+  few-at-end f h = closed-end true f (lt-ltb (ended-line .lines) shares h)
+
+  pub done-at-end : s .around ≡ [] → shares ≤ ended-line .lines → runAt shares declared text p s ≡ done ended-line
+  done-at-end f h = closed-end false f (le-ltb (ended-line .lines) shares h)

@@ -13,6 +13,7 @@
 --     symbols-refused                    no such symbol, a share beyond the order, a mask not declared
 --     beginnings-refused                 bytes that only begin as a symbol, or go on after one; a letter of none
 --     refusal-numbers                    the number of each refusal
+--     share-digits                       the digits 0 to 9 write a share, and nothing else does
 --     depths                             16 deep and 17 deep
 --     lengths                            4,096 bytes and 4,097
 use Prim.Native.Nat.{ℕ, _+_}
@@ -21,11 +22,13 @@ use mathlib.Core.Path.{_≡_, refl}
 use mathlib.Core.Bool.{true, false}
 use mathlib.Core.List.{List, [], _∷_, _++_, map}
 use lib.ListN.{length, take, drop, replicate}
+use Rattle.basics.specs.Folds.{upTo}
 use Rattle.basics.specs.Quoted.{bytes}
 use Rattle.wires.specs.declared.Symbol.{Symbol}
 use Rattle.wires.specs.declared.Symbol.the-variants.{Product, ShareA, ShareB, Mask}
 use Rattle.records.specs.Words.{bit}
 use Rattle.description.specs.Bytes.{space}
+use Rattle.description.specs.Symbols.{shareFigures, shareFigure}
 use Rattle.description.specs.Header.{orderLine, masksLine, namesFrom}
 use Rattle.description.specs.Listing.{encode}
 use Rattle.description.specs.Grammar.{sumOf}
@@ -237,3 +240,7 @@ pub refusal-numbers : map refusalNumber
     ∷ TooManyWires ∷ [])
     ≡ 1 ∷ 2 ∷ 3 ∷ 4 ∷ 5 ∷ 6 ∷ 7 ∷ 8 ∷ 9 ∷ 10 ∷ []
 refusal-numbers = refl
+
+pub share-digits : (shareFigures ≡ 10) × (map shareFigure (upTo shareFigures) ≡ bytes "0123456789")
+unfolding upTo
+share-digits = (refl, refl)

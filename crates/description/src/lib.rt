@@ -10,6 +10,9 @@ pub struct PlacedSymbol {
     pub symbol: Symbol,
 }
 
+// The most bytes of a text.
+pub const MAX_TEXT_BYTES: usize = 4096;
+
 // What a run of bytes is.
 pub enum SymbolAnswer {
     Known(Symbol),

@@ -1,7 +1,7 @@
 -- The part of the text that computes a wire.
 --     place-small                  the offset and length of a record are numbers of two bytes
 --     PartStands, part-exactly     the check accepts exactly when each condition holds, and tells what the record says
---     part-numbers                 the numbers of the refusals
+--     part-numbers, parts-told     the numbers of the refusals, and what each answer tells
 --     part-refused, part-given     what another answer makes of the same tests
 --     part-told                    the part is the text's, by the offset and length that the check tells; refused, it is empty
 --     start-told                   where it starts
@@ -20,7 +20,8 @@ use Rattle.basics.proofs.Conditions.{Chain}
 use Rattle.table.proofs.Conditions.{length-exactly}
 use Rattle.reader.specs.Conditions.{partConditions}
 use Rattle.reader.proofs.Conditions.{part-chain, part-settled}
-use Rattle.reader.specs.Answers.{partRefusalNumber, partChecked, partCheck, textPart, partStart}
+use Rattle.reader.specs.Answers.{partRefusalNumber, partTold, partChecked, partCheck, textPart, partStart}
+use Rattle.reader.specs.declared.PartAnswer.{PartAnswer}
 use Rattle.reader.specs.declared.PartRefusal.{PartRefusal}
 
 short-small : (table : List ℕ) (wire at : ℕ) → Bytes table → wire < wireCount table → at + 2 ≤ recordBytes → field at 2 (recordAt table wire) < 65536
@@ -98,3 +99,8 @@ module _ (text table : List ℕ) (wire : ℕ) where
 pub part-numbers : (partRefusalNumber PartRefusal.TableLength ≡ 12) × (partRefusalNumber PartRefusal.NoSuchWire ≡ 21)
     × (partRefusalNumber PartRefusal.OutsideTheText ≡ 22)
 part-numbers = (refl, refl, refl)
+
+-- what each answer of the check tells
+pub parts-told : ((offset size : ℕ) → partTold (PartAnswer.Part offset size) ≡ values (offset ∷ size ∷ []))
+    × ((why : PartRefusal) → partTold (PartAnswer.Refused why) ≡ refusal (partRefusalNumber why))
+parts-told = (λ offset size. refl, λ why. refl)

@@ -1,6 +1,7 @@
 -- What reading tells, and what the answer then says of the text's grammar.
 --     read-refused, read-many, read-short, read-copied     the answer where the text is turned down, where it has too many wires, where the
 --                        lent table is too short, and where the records are copied into it
+--     too-large, large-enough     which number a text that can be read is turned down with, and else what it gives
 --     promised           both promises of reading, from its equation
 --     reads-grammar      whatever is told as the definition tells it is read exactly when the text spells a description within the limits, and
 --                        gives that description's wires
@@ -8,6 +9,7 @@ use Prim.Native.Nat.{ℕ, _+_, _*_, _%_, _≤_, _<_}
 use native.Mathlib.Nat.{mul-comm, mul-mod-left}
 use native.Mathlib.Omega.{arith}
 use mathlib.Core.Path.{_≡_, refl, sym, _∙_, ap, ap₂, subst}
+use mathlib.Core.Logic.{_⊎_, inl, inr}
 use mathlib.Core.Bool.{Bool, true, false, cond, _||_}
 use mathlib.Core.List.{List, [], _∷_, _++_}
 use borrow.Author.Tests.{ltb-false, lt-ltb, le-ltb}
@@ -74,6 +76,32 @@ module _ (text table : List ℕ) where
         ap₂ (λ (n : ℕ) (l : List ℕ). readTold (ReadAnswer.Read order n masks wires) l) (s .same-shares)
         (e ∙ ap (λ (l : List ℕ). l ++ drop (recordBytes * wires) table) (s .records few))
         ∙ sym (told false (ap₂ _||_ (le-ltb maxWires wires few) (le-ltb (length table) (recordBytes * wires) room)))
+
+  -- "10: over 512 wires or lent table too short, at the text's length"; else the four values, and nothing past the last record
+  module _ (order masks : ℕ) (ws : List Listed) (e : reading text ≡ read order masks ws) where
+    by-size : (large : Bool) → tooLarge table (length ws) ≡ large
+        → readText text table
+        ≡ cond large (record { told = refused 10 (length text); held = table })
+        (record { told = gives order (order + 1) masks (length ws); held = recordsOf ws ++ drop (recordBytes * length ws) table })
+    by-size large h =
+        ap (lentReading text table) e
+        ∙ ap
+        (λ (b : Bool).
+        cond {A = ReadLent} b (record { told = refused 10 (length text); held = table })
+        (record { told = gives order (order + 1) masks (length ws); held = recordsOf ws ++ drop (recordBytes * length ws) table }))
+        h
+
+    pub too-large : (512 < length ws) ⊎ (length table < 24 * length ws) → readText text table ≡ record { told = refused 10 (length text); held = table }
+    too-large (inl many) = by-size true (or-left (ltb maxWires (length ws)) (ltb (length table) (recordBytes * length ws)) (lt-ltb maxWires (length ws) many))
+    too-large (inr short) =
+        by-size true
+        (or-right (ltb maxWires (length ws)) (ltb (length table) (recordBytes * length ws)) (lt-ltb (length table) (recordBytes * length ws) short))
+
+    pub large-enough : length ws ≤ 512 → 24 * length ws ≤ length table
+        → readText text table
+        ≡ record { told = gives order (order + 1) masks (length ws); held = recordsOf ws ++ drop (24 * length ws) table }
+    large-enough few room =
+        by-size false (ap₂ _||_ (le-ltb maxWires (length ws) few) (le-ltb (length table) (recordBytes * length ws) room))
 
   -- ---- the grammar
 

@@ -8,6 +8,7 @@ ghost use Rattle.description.specs.Run.{secondLine, maxText};
 ghost use Rattle.description.specs.declared.OrderLine.{OrderLine};
 ghost use Rattle.reader.specs.Scratch.{LinesListed, SecondReads, ScratchReads};
 use super::ReadAnswer;
+use description::MAX_TEXT_BYTES;
 use description::Masks;
 use description::MasksLine;
 use description::OrderLine;
@@ -16,8 +17,6 @@ use output_lines::groups::Answer;
 use output_lines::lines;
 use tokens::header::masks_line;
 use tokens::header::order_line;
-
-pub const MAX_TEXT_BYTES: usize = 4096;
 
 // Where the second line starts: `ORDER = `, a digit and a line end stand before it.
 const SECOND_LINE: usize = 10;

@@ -1,4 +1,5 @@
 -- The whole report, by what was told.
+--     page-bytes                                   how long a page is that is never too short
 --     part-start, take-few                         the part of a list from its start on, which is no longer than it
 --     shown-few                                    a set that is shown has no more wires than the buffer has room for
 --     holds-said, broken-said, refused-said        what a verdict says
@@ -8,7 +9,7 @@
 --     room-refused, room-written                   a report of at most 512 bytes, refused and written
 use Prim.Native.Nat.{ℕ, zero, suc, _+_, _*_, _-_, _≤_, _<_}
 use native.Mathlib.Omega.{arith}
-use mathlib.Core.Path.{_≡_, sym, _∙_, ap, ap₂, subst}
+use mathlib.Core.Path.{_≡_, refl, sym, _∙_, ap, ap₂, subst}
 use mathlib.Core.Bool.{Bool, cond}
 use mathlib.Core.List.{List, [], _∷_, _++_}
 use lib.ListN.{length, take, drop}
@@ -149,3 +150,7 @@ room-written room end few = record {
   short = λ size e. let f : size ≡ end = cc in omega (arith, few, f);
   enough = λ why e. absurd (apart why end (sym e));
 }
+
+-- the page that is never too short, as the header for C callers has it
+pub page-bytes : maxReport ≡ 512
+page-bytes = refl

@@ -2,7 +2,7 @@
 use Prim.Native.Nat.{ℕ, _*_, _/_, _%_, _^_, _≤_}
 use native.Mathlib.Omega.{arith}
 use mathlib.Core.Path.{_≡_, refl, ap, subst, _∙_}
-use mathlib.Core.List.{[], _∷_}
+use mathlib.Core.List.{List, [], _∷_, map}
 use lib.ListN.{replicate}
 use Rattle.limits.specs.Limits.{maxWires}
 use Rattle.counts.specs.Counts.{binom}
@@ -11,7 +11,13 @@ use Rattle.counts.proofs.Binomial.{binom-wider}
 use Rattle.revolving.specs.Order.{revolving, setAt}
 use Rattle.sets.specs.Division.{start}
 use Rattle.basics.specs.Told.{values, refusal, turnedDown}
-use Rattle.sets.specs.Answers.{setCount, setFromRank, rankFromSet, jobRanks}
+use Rattle.sets.specs.Answers.{refusalNumber, countTold, setTold, rankTold, jobTold, setCount, setFromRank, rankFromSet, jobRanks}
+use Rattle.sets.specs.declared.Refusal.{Refusal}
+use Rattle.sets.specs.declared.Refusal.the-variants.{TooManyWires, SizeTooLarge, BufferTooShort, RankTooLarge, NoSuchJob, NotASet}
+use Rattle.sets.specs.declared.CountAnswer.{CountAnswer}
+use Rattle.sets.specs.declared.SetAnswer.{SetAnswer}
+use Rattle.sets.specs.declared.RankAnswer.{RankAnswer}
+use Rattle.sets.specs.declared.JobAnswer.{JobAnswer}
 use Rattle.sets.specs.Visits.{SetTells}
 use Rattle.revolving.proofs.Revolving.{set-at-wider}
 use Rattle.sets.proofs.Entries.{at-told}
@@ -71,3 +77,15 @@ rank-limits = (refl, refl, refl, refl, refl, refl)
 pub job-limits : (jobRanks 513 8 0 0 ≡ refusal 12) × (jobRanks 512 8 0 0 ≡ refusal 17) × (jobRanks 4 2 0 0 ≡ refusal 19) × (jobRanks 4 2 0 65537 ≡ refusal 19) × (jobRanks 4 2 7 7 ≡ refusal 19) × (jobRanks 4 2 6 7 ≡ values (5 ∷ 6 ∷ [])) × (jobRanks 4 2 65535 65536 ≡ values (5 ∷ 6 ∷ []))
 unfolding binom
 job-limits = (refl, refl, refl, refl, refl, refl, refl)
+
+-- the number of each refusal, and what each answer tells
+pub numbers : (map refusalNumber (TooManyWires ∷ SizeTooLarge ∷ BufferTooShort ∷ RankTooLarge ∷ NoSuchJob ∷ NotASet ∷ []) ≡ 12 ∷ 17 ∷ 16 ∷ 18 ∷ 19 ∷ 21 ∷ [])
+    × ((n : ℕ) → countTold (CountAnswer.Sets n) ≡ values (n ∷ []))
+    × ((why : Refusal) → countTold (CountAnswer.Refused why) ≡ refusal (refusalNumber why))
+    × ((l : List ℕ) → setTold SetAnswer.Written l ≡ record { told = values []; held = l })
+    × ((why : Refusal) (l : List ℕ) → setTold (SetAnswer.Refused why) l ≡ record { told = refusal (refusalNumber why); held = l })
+    × ((n : ℕ) → rankTold (RankAnswer.Rank n) ≡ values (n ∷ []))
+    × ((why : Refusal) → rankTold (RankAnswer.Refused why) ≡ refusal (refusalNumber why))
+    × ((from to : ℕ) → jobTold (JobAnswer.Ranks from to) ≡ values (from ∷ to ∷ []))
+    × ((why : Refusal) → jobTold (JobAnswer.Refused why) ≡ refusal (refusalNumber why))
+numbers = (refl, λ n. refl, λ why. refl, λ l. refl, λ why l. refl, λ n. refl, λ why. refl, λ from to. refl, λ why. refl)
