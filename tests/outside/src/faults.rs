@@ -3,9 +3,9 @@
 
 use crate::model;
 use crate::model::breaking::{breaks, inner, shares_of_a, shares_of_b, sum, Search, NI, SCOPE, SNI};
-use crate::model::reading::MAX_TEXT_BYTES;
+use crate::model::reading::{Reading, MAX_TEXT_BYTES};
 use crate::model::records::{parse, to_bytes, Record};
-use crate::model::report::report;
+use crate::model::report::{opening, report, report_up_to};
 use crate::model::sets::{count, from_rank};
 use crate::passes::examples::A;
 use crate::reply::Reply;
@@ -13,6 +13,8 @@ use crate::tally::Tally;
 
 /// Wrong verdicts are worked out only where no more sets than this are to be looked at.
 const MOST_SETS: u64 = 1_500;
+/// Enough for the sets of up to 3 out of 50 wires.
+const MOST_SETS_OF_3: u64 = 25_000;
 
 type Shown = fn(Option<Vec<u16>>) -> Option<Vec<u16>>;
 
@@ -86,7 +88,7 @@ const PRODUCT_64: &str = "a job's product in 64 bits";
 /// What a wrong program prints for a text, whose report is given too.
 type Printed = fn(&[u8], &str) -> String;
 
-const PROGRAMS: [(&str, Printed); 7] = [
+const PROGRAMS: [(&str, Printed); 9] = [
     ("a program prints text A's report always", |_, _| {
         small_report(A.as_bytes())
     }),
@@ -107,6 +109,13 @@ const PROGRAMS: [(&str, Printed); 7] = [
             _ => String::from(report),
         }
     }),
+    ("a program waves sizes above 3 through", |text, report| {
+        waved_through(text, report, 0)
+    }),
+    (
+        "a program waves sizes above 3 through from 50 wires on",
+        |text, report| waved_through(text, report, 50),
+    ),
     ("a program cuts a text off at 4,096 bytes", |text, report| {
         match text.len() > MAX_TEXT_BYTES {
             true => small_report(&text[..MAX_TEXT_BYTES]),
@@ -211,6 +220,17 @@ pub fn program(tally: &mut Tally, text: &[u8], first_piece: usize, report: &str,
 /// The report, where its verdicts are no long work.
 fn small_report(text: &[u8]) -> String {
     report(text, MOST_SETS).unwrap_or_default()
+}
+
+/// The report that looks at no set of more than 3 wires where there are so many wires at least. Where that is long work
+/// it is the right report, which nobody notices.
+fn waved_through(text: &[u8], report: &str, least_wires: usize) -> String {
+    let reaches = |reading: Reading| reading.order > 3 && reading.wires.len() >= least_wires;
+    let wrong = match opening(text).1.is_some_and(reaches) {
+        true => report_up_to(3, text, MOST_SETS_OF_3).ok(),
+        false => None,
+    };
+    wrong.unwrap_or_else(|| String::from(report))
 }
 
 pub fn range_check(tally: &mut Tally, engine: &Reply) {

@@ -1,5 +1,5 @@
 //! Descriptions of gadgets from the literature and near misses of them: multiplication of Ishai, Sahai and Wagner,
-//! refreshing in a ring or pair by pair, sums and plain copies.
+//! refreshing in a ring or pair by pair, sums and plain copies. And some that are made for a break of a given size.
 
 use crate::random::Random;
 
@@ -84,6 +84,33 @@ fn pair_refresh(order: usize) -> Description {
             .filter(|j| *j != i)
             .map(|j| format!(" r{}", pair(i.min(j), i.max(j))));
         format!("a{i}{}", others.collect::<String>())
+    })
+}
+
+/// What ends the chain of masks of a gadget that is made for a late break.
+#[derive(Clone, Copy, PartialEq)]
+pub enum End {
+    /// The last share: the sums of the chain add up to all shares, one more than there are sums.
+    Share,
+    /// A mask that is nowhere else, so that nothing breaks.
+    Mask,
+}
+
+/// A gadget of an order from 2 that no set of fewer wires than the order breaks, under either notion. Each line but
+/// the last adds one share to the chain, a sum that shares a mask with the sum of the line before and one with that of
+/// the line after, and then a mask of its own, so that the outer wire is of no use. Only all sums of the chain together
+/// have no mask left. The last line is padding, the sum of so many masks that are nowhere else.
+pub fn late(order: usize, end: End, padding: usize) -> Description {
+    let own = |i: usize| order - 1 + i;
+    let (end, padding) = match end {
+        End::Share => (format!("a{order}"), own(order)..own(order) + padding),
+        End::Mask => (format!("r{}", own(order)), own(order) + 1..own(order) + 1 + padding),
+    };
+    Description::new(order, padding.end, |i| match i {
+        0 => format!("(a0 r0) r{}", own(0)),
+        i if i < order - 1 => format!("((a{i} r{}) r{i}) r{}", i - 1, own(i)),
+        i if i < order => format!("((a{i} r{}) {end}) r{}", i - 1, own(i)),
+        _ => padding.clone().map(|k| format!("r{k}")).collect::<Vec<_>>().join(" "),
     })
 }
 

@@ -2,7 +2,7 @@
 //! can not be written.
 
 use super::damage::damaged;
-use super::gadgets;
+use super::gadgets::{self, End};
 use super::texts::sound;
 use crate::child::{Call, Input, Output};
 use crate::model::reading::MAX_TEXT_BYTES;
@@ -16,12 +16,19 @@ const TEXTS: &str = "crates/try_report/data";
 const DRAWN: usize = 400;
 const MOST_SETS_OF_DRAWN: u64 = 20_000;
 
+/// Orders of texts with a late break, each with the masks of its padding: enough for 50 wires, but only two at the two
+/// highest orders, so that the sets stay below 3 million of a size.
+const LATE: [(usize, usize); 5] = [(6, 2), (5, 2), (4, 14), (3, 17), (2, 20)];
+
 /// What the program has to print.
 pub enum Expected {
     /// The report on this text.
     Report(Vec<u8>),
-    /// The report on this text, whose verdicts may take too long: nothing while they do.
-    Long(Vec<u8>),
+    /// The report on this text, whose first breaking set has so many wires under either notion.
+    Late(Vec<u8>, usize),
+    /// Nothing, and no end either: a verdict that looks at every set, 100 million or more, takes far longer than the
+    /// program is given. One that ends has not looked.
+    Long,
     /// Nothing, and on standard error a line that begins so.
     Reason(&'static str),
 }
@@ -32,10 +39,27 @@ pub struct Case {
 }
 
 pub fn all(random: &mut Random) -> Vec<Case> {
-    [of_files(), of_ways(), of_failures(), drawn(random)]
+    [late(), of_files(), of_ways(), of_failures(), drawn(random)]
         .into_iter()
         .flatten()
         .collect()
+}
+
+/// Texts that break only by a set of as many wires as the order, and the same without a break. They come first: the
+/// longest work of all cases is here.
+fn late() -> Vec<Case> {
+    let mut cases = Vec::new();
+    for (order, padding) in LATE {
+        for end in [End::Share, End::Mask] {
+            let text = gadgets::late(order, end, padding).text();
+            let mut case = in_pieces(&text, text.len(), None);
+            if end == End::Share {
+                case.expected = Expected::Late(text, order);
+            }
+            cases.push(case);
+        }
+    }
+    cases
 }
 
 /// Every text of the list, as a file.
@@ -50,7 +74,7 @@ fn of_files() -> Vec<Case> {
             call: Call::on(Input::File(path)),
             expected: match kind {
                 "report" => Expected::Report(text),
-                _ => Expected::Long(text),
+                _ => Expected::Long,
             },
         }
     };
@@ -133,7 +157,8 @@ fn of_failures() -> Vec<Case> {
     ]
 }
 
-/// Texts that no program can know beforehand.
+/// Texts drawn from the seed. In the gate the seed is fixed, so every gate has the same ones, and a program could be
+/// made to know them; another seed draws others (`tests/outside/run 7`).
 fn drawn(random: &mut Random) -> Vec<Case> {
     let mut cases = Vec::new();
     while cases.len() < DRAWN {

@@ -4,16 +4,23 @@ use super::breaking::{TooMany, NI, SCOPE, SNI};
 use super::functions::{computes, COPY, PRODUCT, SUM};
 use super::reading::{read, Reading};
 use super::records::MAX_TABLE_BYTES;
+use super::sets::MAX_SIZE;
 use super::trees::Fault;
 
 /// The whole report, line ends included; `most` bounds the sets that either verdict looks at.
 pub fn report(text: &[u8], most: u64) -> Result<String, TooMany> {
+    report_up_to(MAX_SIZE, text, most)
+}
+
+/// The report by verdicts that look at no set of more wires than `size`. No order is above `MAX_SIZE`; with less than
+/// the order it is that of a wrong program.
+pub fn report_up_to(size: usize, text: &[u8], most: u64) -> Result<String, TooMany> {
     let (mut report, reading) = opening(text);
     let Some(reading) = reading else {
         return Ok(report);
     };
     for (notion, name) in [(NI, "NI"), (SNI, "SNI")] {
-        let verdict = match SCOPE.first(&reading.wires, notion, reading.order, most)? {
+        let verdict = match SCOPE.first(&reading.wires, notion, reading.order.min(size), most)? {
             None => String::from(" holds"),
             Some(found) => found
                 .set

@@ -7,7 +7,7 @@ use crate::faults;
 use crate::inputs::calls::show_text;
 use crate::inputs::runs::{self, Case, Expected};
 use crate::model::reading::MAX_TEXT_BYTES;
-use crate::model::report::{opening, report};
+use crate::model::report::report;
 use crate::random::Random;
 use crate::tally::Tally;
 use std::sync::atomic::{AtomicUsize, Ordering};
@@ -20,23 +20,34 @@ const PROGRAM: &str = "target/bin/report";
 const AT_A_TIME: usize = 2;
 /// A child that takes longer hangs. The longest verdicts here are a matter of seconds, on a slow machine too.
 const LIMIT: Duration = Duration::from_secs(60);
-/// A child whose verdicts would take too long is stopped after this.
+/// A child whose verdicts would take too long is stopped after this, and must not have ended before.
 const LIMIT_OF_LONG: Duration = Duration::from_millis(400);
 
 /// So many characters of what a child printed are shown where it is wrong.
 const MOST_SHOWN: usize = 600;
 
-const KINDS: [&str; 6] = ["holds", "broken", "refused", "long", "no input", "no output"];
+const KINDS: [&str; 7] = [
+    "holds",
+    "broken",
+    "broken late",
+    "refused",
+    "long",
+    "no input",
+    "no output",
+];
 
 pub fn run(random: &mut Random, tally: &mut Tally) {
     tally.expect("program", &KINDS);
     let cases = runs::all(random);
     for (case, model, outcome) in run_cases(&cases) {
         tally.occurs("program", kind(&case.expected, &model));
+        if let Expected::Late(_, size) = case.expected {
+            assert_eq!(sizes_of_breaks(&model), [size, size], "a late break: {}", case.show());
+        }
         if let Err(why) = judge(case, &model, &outcome) {
             tally.differs(|| format!("{PROGRAM}: {why}\n    {}", case.show()));
         }
-        if let (Expected::Report(text), Output::Pipe) = (&case.expected, case.call.output) {
+        if let (Expected::Report(text) | Expected::Late(text, _), Output::Pipe) = (&case.expected, case.call.output) {
             let first_piece = match &case.call.input {
                 Input::Pieces(pieces) => pieces.first().map_or(0, Vec::len),
                 _ => text.len(),
@@ -71,17 +82,16 @@ fn run_cases(cases: &[Case]) -> Vec<(&Case, String, Outcome)> {
 impl Case {
     fn limit(&self) -> Duration {
         match self.expected {
-            Expected::Long(_) => LIMIT_OF_LONG,
+            Expected::Long => LIMIT_OF_LONG,
             _ => LIMIT,
         }
     }
 
-    /// The report, or the lines of it that are no long work.
+    /// The report, or nothing where there is to be none.
     fn model(&self) -> String {
         match &self.expected {
-            Expected::Report(text) => report(text, u64::MAX).unwrap_or_default(),
-            Expected::Long(text) => opening(text).0,
-            Expected::Reason(_) => String::new(),
+            Expected::Report(text) | Expected::Late(text, _) => report(text, u64::MAX).unwrap_or_default(),
+            Expected::Long | Expected::Reason(_) => String::new(),
         }
     }
 
@@ -100,11 +110,18 @@ fn kind(expected: &Expected, model: &str) -> &'static str {
     match expected {
         Expected::Reason("standard input") => "no input",
         Expected::Reason(_) => "no output",
-        Expected::Long(_) => "long",
+        Expected::Long => "long",
+        Expected::Late(..) => "broken late",
         Expected::Report(_) if model.starts_with("refused") => "refused",
         Expected::Report(_) if model.contains("broken") => "broken",
         Expected::Report(_) => "holds",
     }
+}
+
+/// How many wires a report shows for each notion that is broken.
+fn sizes_of_breaks(report: &str) -> Vec<usize> {
+    let sets = report.lines().filter_map(|line| line.split_once(" broken "));
+    sets.map(|(_, set)| set.split(' ').count()).collect()
 }
 
 /// What is wrong with an outcome.
@@ -118,9 +135,8 @@ fn judge(case: &Case, model: &str, outcome: &Outcome) -> Result<(), String> {
         return Err(format!("without {witness:?} on standard error: {said:?}"));
     };
     let right = match &case.expected {
-        Expected::Report(_) => ended && printed == model && reason.is_empty(),
-        Expected::Long(_) if outcome.status.is_none() => printed.is_empty() && reason.is_empty(),
-        Expected::Long(_) => ended && printed.starts_with(model) && printed.lines().count() == 4 && reason.is_empty(),
+        Expected::Report(_) | Expected::Late(..) => ended && printed == model && reason.is_empty(),
+        Expected::Long => outcome.status.is_none() && printed.is_empty() && reason.is_empty(),
         Expected::Reason(start) => ended && printed.is_empty() && reason.starts_with(start),
     };
     if !right {
@@ -128,8 +144,12 @@ fn judge(case: &Case, model: &str, outcome: &Outcome) -> Result<(), String> {
             .status
             .map_or(String::from("stopped"), |status| status.to_string());
         let printed: String = printed.chars().take(MOST_SHOWN).collect();
+        let wanted = match case.expected {
+            Expected::Long => format!("nothing, and no end in {LIMIT_OF_LONG:?}"),
+            _ => format!("{model:?}"),
+        };
         return Err(format!(
-            "prints {printed:?}, says {said:?}, {ended}; the model: {model:?}"
+            "prints {printed:?}, says {said:?}, {ended}; the model: {wanted}"
         ));
     }
     match outcome.taken > MAX_TEXT_BYTES as u64 + 1 {
