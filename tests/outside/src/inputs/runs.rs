@@ -16,9 +16,9 @@ const TEXTS: &str = "crates/try_report/data";
 const DRAWN: usize = 400;
 const MOST_SETS_OF_DRAWN: u64 = 20_000;
 
-/// Orders of texts with a late break, each with the masks of its padding: enough for 50 wires, but only two at the two
-/// highest orders, so that the sets stay below 3 million of a size.
-const LATE: [(usize, usize); 5] = [(6, 2), (5, 2), (4, 14), (3, 17), (2, 20)];
+/// Orders of texts with a late break, each with the masks of its padding: enough for 50 wires, but only two at order 6,
+/// so that the sets stay below 3 million of a size.
+const LATE: [(usize, usize); 5] = [(6, 2), (5, 11), (4, 14), (3, 17), (2, 20)];
 
 /// What the program has to print.
 pub enum Expected {
