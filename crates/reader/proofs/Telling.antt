@@ -41,42 +41,6 @@ module _ (text table : List ℕ) where
       → readTold (ReadAnswer.Refused why offset) table ≡ readText text table
   read-refused why offset e = sym (ap (lentReading text table) e)
 
-  module _ (scratch : List ℕ) (order shares masks wires : ℕ) (s : Scratched (reading text) scratch order shares masks wires) where
-    -- what is to be told of a text whose wires were listed
-    told : (large : Bool) → tooLarge table wires ≡ large
-        → readText text table
-        ≡ cond large (record { told = refused 10 (length text); held = table })
-        (record {
-          told = gives order (order + 1) masks wires;
-          held = recordsOf (s .listed-wires) ++ drop (recordBytes * wires) table;
-        })
-    told large e =
-        ap (lentReading text table) (s .reads)
-        ∙ ap
-        (λ (n : ℕ).
-        cond (tooLarge table n) (record { told = refused 10 (length text); held = table })
-        (record { told = gives order (order + 1) masks n; held = recordsOf (s .listed-wires) ++ drop (recordBytes * n) table }))
-        (sym (s .count))
-        ∙ ap
-        (λ (b : Bool).
-        cond {A = ReadLent} b (record { told = refused 10 (length text); held = table })
-        (record { told = gives order (order + 1) masks wires; held = recordsOf (s .listed-wires) ++ drop (recordBytes * wires) table }))
-        e
-
-    pub read-many : maxWires < wires → readTold (ReadAnswer.Refused TooManyWires (length text)) table ≡ readText text table
-    read-many h = sym (told true (or-left (ltb maxWires wires) (ltb (length table) (recordBytes * wires)) (lt-ltb maxWires wires h)))
-
-    pub read-short : length table < recordBytes * wires → readTold (ReadAnswer.Refused TooManyWires (length text)) table ≡ readText text table
-    read-short h = sym (told true (or-right (ltb maxWires wires) (ltb (length table) (recordBytes * wires)) (lt-ltb (length table) (recordBytes * wires) h)))
-
-    pub read-copied : (held : List ℕ) → wires ≤ maxWires → recordBytes * wires ≤ length table
-        → held ≡ take (recordBytes * wires) scratch ++ drop (recordBytes * wires) table
-        → readTold (ReadAnswer.Read order shares masks wires) held ≡ readText text table
-    read-copied held few room e =
-        ap₂ (λ (n : ℕ) (l : List ℕ). readTold (ReadAnswer.Read order n masks wires) l) (s .same-shares)
-        (e ∙ ap (λ (l : List ℕ). l ++ drop (recordBytes * wires) table) (s .records few))
-        ∙ sym (told false (ap₂ _||_ (le-ltb maxWires wires few) (le-ltb (length table) (recordBytes * wires) room)))
-
   -- "10: over 512 wires or lent table too short, at the text's length"; else the four values, and nothing past the last record
   module _ (order masks : ℕ) (ws : List Listed) (e : reading text ≡ read order masks ws) where
     by-size : (large : Bool) → tooLarge table (length ws) ≡ large
@@ -91,17 +55,36 @@ module _ (text table : List ℕ) where
         (record { told = gives order (order + 1) masks (length ws); held = recordsOf ws ++ drop (recordBytes * length ws) table }))
         h
 
-    pub too-large : (512 < length ws) ⊎ (length table < 24 * length ws) → readText text table ≡ record { told = refused 10 (length text); held = table }
+    pub too-large : (maxWires < length ws) ⊎ (length table < recordBytes * length ws) → readText text table ≡ record { told = refused 10 (length text); held = table }
     too-large (inl many) = by-size true (or-left (ltb maxWires (length ws)) (ltb (length table) (recordBytes * length ws)) (lt-ltb maxWires (length ws) many))
     too-large (inr short) =
         by-size true
         (or-right (ltb maxWires (length ws)) (ltb (length table) (recordBytes * length ws)) (lt-ltb (length table) (recordBytes * length ws) short))
 
-    pub large-enough : length ws ≤ 512 → 24 * length ws ≤ length table
+    pub large-enough : length ws ≤ maxWires → recordBytes * length ws ≤ length table
         → readText text table
-        ≡ record { told = gives order (order + 1) masks (length ws); held = recordsOf ws ++ drop (24 * length ws) table }
+        ≡ record { told = gives order (order + 1) masks (length ws); held = recordsOf ws ++ drop (recordBytes * length ws) table }
     large-enough few room =
         by-size false (ap₂ _||_ (le-ltb maxWires (length ws) few) (le-ltb (length table) (recordBytes * length ws) room))
+
+  -- the same for the wires that the code counted
+  module _ (scratch : List ℕ) (order shares masks wires : ℕ) (s : Scratched (reading text) scratch order shares masks wires) where
+    pub read-many : maxWires < wires → readTold (ReadAnswer.Refused TooManyWires (length text)) table ≡ readText text table
+    read-many h = sym (too-large order masks (s .listed-wires) (s .reads) (inl (omega (arith, s .count, h))))
+
+    pub read-short : length table < recordBytes * wires → readTold (ReadAnswer.Refused TooManyWires (length text)) table ≡ readText text table
+    read-short h = sym (too-large order masks (s .listed-wires) (s .reads) (inr (omega (arith, s .count, h))))
+
+    pub read-copied : (held : List ℕ) → wires ≤ maxWires → recordBytes * wires ≤ length table
+        → held ≡ take (recordBytes * wires) scratch ++ drop (recordBytes * wires) table
+        → readTold (ReadAnswer.Read order shares masks wires) held ≡ readText text table
+    read-copied held few room e =
+        ap₂ (λ (n : ℕ) (l : List ℕ). readTold (ReadAnswer.Read order n masks wires) l) (s .same-shares)
+        (e ∙ ap (λ (l : List ℕ). l ++ drop (recordBytes * wires) table) (s .records few))
+        ∙ ap
+        (λ (n : ℕ). readTold (ReadAnswer.Read order (order + 1) masks n) (recordsOf (s .listed-wires) ++ drop (recordBytes * n) table))
+        (s .count)
+        ∙ sym (large-enough order masks (s .listed-wires) (s .reads) (omega (arith, s .count, few)) (omega (arith, s .count, room)))
 
   -- ---- the grammar
 
@@ -240,13 +223,7 @@ module _ (text table : List ℕ) where
       }
   readable-told r =
       let d = r .description in
-      let ws = wiresOf d in
-      ap (lentReading text table) (spelled-read text d (r .spells) (r .limits))
-      ∙ ap
-      (λ (b : Bool).
-      cond {A = ReadLent} b (record { told = refused 10 (length text); held = table })
-      (record { told = gives (d .order) (d .order + 1) (maskCount (d .names)) (length ws); held = recordsOf ws ++ drop (recordBytes * length ws) table }))
-      (ap₂ _||_ (le-ltb maxWires (length ws) (r .few-wires)) (le-ltb (length table) (recordBytes * length ws) (r .table-room)))
+      large-enough (d .order) (maskCount (d .names)) (wiresOf d) (spelled-read text d (r .spells) (r .limits)) (r .few-wires) (r .table-room)
 
   pub reads-grammar : (answer : ReadAnswer) (held : List ℕ) → readTold answer held ≡ readText text table
       → ReadsGrammar answer text (length table) held

@@ -57,7 +57,8 @@ use Rattle.description.specs.Run.{Reading, read, turnedDown, reading, refusalNu
 use Rattle.description.proofs.Encoding.{length-records}
 use Rattle.description.proofs.Exactly.{spelled-read, read-spelled}
 use Rattle.description.proofs.Tables.{wires-mean, table-passes}
-use Rattle.reader.specs.Answers.{ReadTold, ReadLent, gives, refused, tooLarge, lentReading, readText}
+use Rattle.reader.specs.Answers.{ReadTold, ReadLent, gives, refused, lentReading, readText}
+use Rattle.reader.proofs.Telling.{too-large, large-enough}
 use Rattle.reader.specs.Reads.{Readable}
 use Rattle.pages.specs.Page.{wireNumbers}
 use Rattle.report_text.specs.Report.{orderLine, saysYes, functionLine, notionName, verdictSaid, emptySet, notionLine, checked}
@@ -85,27 +86,15 @@ module _ (text : List ℕ) where
   turned-told why offset e = ap (λ (r : Reading). lentReading text emptyTable r .told) e
 
   module _ (order masks : ℕ) (ws : List Listed) (e : reading text ≡ read order masks ws) where
-    -- what reading tells where there are too many wires, and where there are not
-    abbrev sized : Bool → ReadLent
-    sized large =
-        cond large (record { told = refused 10 (length text); held = emptyTable })
-        (record { told = gives order (order + 1) masks (length ws); held = recordsOf ws ++ drop (recordBytes * length ws) emptyTable })
-
-    sized-read : (large : Bool) → tooLarge emptyTable (length ws) ≡ large → readText text emptyTable ≡ sized large
-    sized-read large f = ap (lentReading text emptyTable) e ∙ ap sized f
-
     large-told : maxWires < length ws → readText text emptyTable .told ≡ refused 10 (length text)
-    large-told h =
-        ap (λ (lent : ReadLent). lent .told)
-        (sized-read true (or-left (ltb maxWires (length ws)) (ltb (length emptyTable) (recordBytes * length ws)) (lt-ltb maxWires (length ws) h)))
+    large-told h = ap (λ (lent : ReadLent). lent .told) (too-large text emptyTable order masks ws e (inl h))
 
     read-report : length ws ≤ maxWires
         → report text ≡ orderLine order (order + 1) masks (length ws) ++ checked (recordsOf ws) order (order + 1) masks
     unfolding report
     read-report few =
         let room = length-replicate {A = ℕ} maxTableBytes 0 in
-        ap readReported
-        (sized-read false (ap₂ _||_ (le-ltb maxWires (length ws) few) (le-ltb (length emptyTable) (recordBytes * length ws) (omega (arith, room, few)))))
+        ap readReported (large-enough text emptyTable order masks ws e few (omega (arith, room, few)))
         ∙ ap (λ (l : List ℕ). orderLine order (order + 1) masks (length ws) ++ checked l order (order + 1) masks)
         (take-at (recordsOf ws) (drop (recordBytes * length ws) emptyTable) (recordBytes * length ws) (length-records ws))
 
