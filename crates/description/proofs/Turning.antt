@@ -5,14 +5,13 @@
 --     second-inside, second-absent     where that is
 --     after-header     else what the run over the output lines comes to
 use Prim.Native.Nat.{ℕ, _+_, _≤_, _<_}
-use native.Mathlib.Omega.{arith}
-use mathlib.Core.Path.{_≡_, refl, sym, _∙_, ap}
-use mathlib.Core.Bool.{Bool, true, false, cond}
+use mathlib.Core.Path.{_≡_, refl, _∙_, ap}
+use mathlib.Core.Bool.{Bool, cond}
 use mathlib.Core.List.{List}
 use borrow.Author.Tests.{lt-ltb, le-ltb}
 use lib.ListN.{length, drop}
 use Rattle.description.specs.Header.{orderLine, masksLine}
-use Rattle.description.specs.Run.{Reading, turnedDown, listed, start, runAt, maxText, secondAt, secondLine, afterMasks, afterOrder, reading}
+use Rattle.description.specs.Run.{turnedDown, listed, start, runAt, maxText, secondAt, secondLine, afterMasks, afterOrder, reading}
 use Rattle.description.specs.declared.Masks.{Masks}
 use Rattle.description.specs.declared.OrderLine.{OrderLine}
 use Rattle.description.specs.declared.MasksLine.{MasksLine}

@@ -19,17 +19,17 @@ use native.Mathlib.Decide.{decLt}
 use native.Mathlib.Omega.{arith}
 use mathlib.Core.Path.{_≡_, refl, sym, _∙_, ap, ap₂, subst}
 use mathlib.Core.Logic.{_↔_, _⊎_, inl, inr, ⊎-elim}
-use mathlib.Core.Bool.{Bool, true, false, cond, not, _&&_, _||_, xor, true≢false, false≢true}
+use mathlib.Core.Bool.{Bool, true, false, cond, not, _&&_, xor, true≢false, false≢true}
 use mathlib.Core.List.{List, [], _∷_, _++_, map}
 use lib.Dec.{ltb, leb, eqb}
 use lib.ListN.{length, length-replicate, take, drop, getD}
 use lib.Seq.{take-at, take-append-seam}
-use borrow.Author.Tests.{le-leb, le-ltb, lt-ltb, ltb-true, ltb-false, eq-eqb}
+use borrow.Author.Tests.{le-leb, ltb-true, ltb-false, eq-eqb}
 use Rattle.limits.specs.Limits.{maxWires, recordBytes, maxTableBytes}
 use Rattle.basics.specs.Folds.{keep, oneIf}
 use Rattle.basics.specs.Quoted.{bytes}
 use Rattle.basics.specs.Told.{Lent, values, refusal}
-use Rattle.basics.proofs.Tests.{or-left, xor-false, false-xor, xor-self}
+use Rattle.basics.proofs.Tests.{xor-false, false-xor, xor-self}
 use Rattle.basics.proofs.Folds.{fold-pick}
 use Rattle.basics.proofs.Conditions.{values-refusal}
 use Rattle.wires.specs.Wires.{Wire, Input, breaks}
@@ -57,7 +57,7 @@ use Rattle.description.specs.Run.{Reading, read, turnedDown, reading, refusalNu
 use Rattle.description.proofs.Encoding.{length-records}
 use Rattle.description.proofs.Exactly.{spelled-read, read-spelled}
 use Rattle.description.proofs.Tables.{wires-mean, table-passes}
-use Rattle.reader.specs.Answers.{ReadTold, ReadLent, gives, refused, lentReading, readText}
+use Rattle.reader.specs.Answers.{ReadTold, ReadLent, refused, lentReading, readText}
 use Rattle.reader.proofs.Telling.{too-large, large-enough}
 use Rattle.reader.specs.Reads.{Readable}
 use Rattle.pages.specs.Page.{wireNumbers}
