@@ -1,89 +1,80 @@
-// The report program: reads a description text from standard input and prints the report on it.
+// The report program: reads a description text from standard input and prints the report on it. Standard output gets the report and nothing
+// else. Standard error gets what helps a reader: how long the check will take, where a text is refused and why, which parts of the text
+// compute the wires of a break.
 ghost use Prim.Native.Nat.{_≤_};
 ghost use lib.ListN.{length};
-use libc::EINTR;
-use libc::STDERR_FILENO;
-use libc::STDIN_FILENO;
 use libc::STDOUT_FILENO;
+use limits::MAX_TABLE_BYTES;
+use limits::RECORD_BYTES;
+use reader::ReadAnswer;
 use report_text::INPUT_BYTES;
 use report_text::MAX_REPORT;
 use report_text::ReportAnswer;
 
-// What standard input gave: how many bytes, and whether they are the whole text.
-struct Input {
-    length: usize,
-    is_whole: bool,
-}
+mod breaks;
+mod input;
+mod lines;
+mod refusals;
+mod saying;
+mod sizes;
 
 fn main() {
     let mut text = [0u8; INPUT_BYTES];
-    let input = read_input(&mut text);
+    let input = input::read_input(&mut text);
     // a text that was read in part is no text
     if !input.is_whole {
-        os::fail(b"standard input");
+        os::fail(b"report: standard input");
         return;
     }
     let length = input.length;
-    print_report(&text[0..length]);
+    answer(&text[0..length]);
 }
 
-// Reads on after a short read, until the input ends or the buffer is full. A read's own answer tells whether it failed: errno may have been
-// set before.
-fn read_input(buffer: &mut [u8]) -> Input
-    ensures { λ r. ⌜ r .length ≤ length (now (buffer .exit)) ⌝ }
-{
-    let mut taken = 0;
-    while taken < buffer.len() {
-        let got = read_some(&mut buffer[taken..]);
-        if got < 0 {
-            return Input {
-                length: taken,
-                is_whole: false,
-            };
+// The text is read here too, for the notes: the report itself is only printed.
+fn answer(text: &[u8]) {
+    let mut table = [0u8; MAX_TABLE_BYTES];
+    let read = reader::read_text(text, &mut table);
+    match read {
+        ReadAnswer::Refused { why, offset } => {
+            let mut page = [0u8; MAX_REPORT];
+            if print_report(text, &mut page) > 0 {
+                refusals::explain(text, why, offset);
+            }
         }
-        let more = io::count(got, &buffer[taken..]);
-        if more == 0 {
-            break;
+        ReadAnswer::Read {
+            order,
+            shares,
+            masks,
+            wires,
+        } => {
+            sizes::warn(wires, order);
+            answer_read(text, &table[0..RECORD_BYTES * wires]);
         }
-        taken += more;
-    }
-    Input {
-        length: taken,
-        is_whole: true,
     }
 }
 
-// One read, made again where a signal came before a byte did. A proved loop has to end, so the tries are counted down, from a number that
-// no run uses up.
-fn read_some(buffer: &mut [u8]) -> isize {
-    let mut tries = u64::MAX;
-    loop {
-        let got = libc::read(STDIN_FILENO, buffer);
-        if tries == 0 || !is_interrupted(got) {
-            return got;
-        }
-        tries -= 1;
-    }
-}
-
-// Only after a read that failed does errno tell why.
-fn is_interrupted(got: isize) -> bool {
-    got < 0 && os::errno() == EINTR
-}
-
-fn print_report(text: &[u8]) {
+// The report on a text that was read, and the wires of its breaks.
+fn answer_read(text: &[u8], table: &[u8]) {
     let mut page = [0u8; MAX_REPORT];
-    let answer = report_text::report(text, &mut page);
-    match answer {
-        ReportAnswer::Written { length } => print(&page[0..length]),
-        ReportAnswer::Refused(why) => {
-            io::write_all(STDERR_FILENO, b"the page is too short\n");
-        }
-    }
+    let length = print_report(text, &mut page);
+    breaks::explain(text, table, &page[0..length]);
 }
 
-fn print(report: &[u8]) {
-    if !io::write_all(STDOUT_FILENO, report) {
-        os::fail(b"standard output");
+// Prints the report and answers its length, or 0 where it could not be printed.
+fn print_report(text: &[u8], page: &mut [u8]) -> usize
+    requires { ⌜ 512 ≤ length (now page) ⌝ }
+    ensures { λ r. ⌜ r ≤ length (now (page .exit)) ⌝ }
+{
+    let answer = report_text::report(text, page);
+    match answer {
+        ReportAnswer::Written { length } => {
+            if io::write_all(STDOUT_FILENO, &page[0..length]) {
+                return length;
+            }
+            os::fail(b"report: standard output");
+            0
+        }
+        // a page of MAX_REPORT bytes is never too short
+        ReportAnswer::Refused(why) => 0,
     }
 }

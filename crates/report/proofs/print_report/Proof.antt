@@ -1,11 +1,7 @@
--- `report::print_report` meets its contract: a report is never longer than the page.
--- Assumes nothing.
+-- `report::print_report` meets its contract: a report is never longer than the page. Assumes nothing.
 use borrow.Author.Needs.{needs}
 use Rattle.report.proofs.print_report.Statement.{statement}
 use Rattle.report.proofs.print_report.Tie as tie
-
-slice-aggregate-report : tie.Need-slice-aggregate-report
-slice-aggregate-report c = search needs
 
 report-requires : tie.Need-report-requires
 report-requires c κs = search needs
@@ -13,47 +9,63 @@ report-requires c κs = search needs
 enum-known-answer : tie.Need-enum-known-answer
 enum-known-answer c = search needs
 
-sub-print : tie.Need-sub-print
-sub-print c = search needs
+sub-write-all : tie.Need-sub-write-all
+sub-write-all c = search needs
 
-part-print-start : tie.Need-part-print-start
-part-print-start c = search needs
+part-write-all-start : tie.Need-part-write-all-start
+part-write-all-start c = search needs
 
-part-print-end : tie.Need-part-print-end
-part-print-end c =
-    let short = c .before .before .before .before .before .report .ensures .1 .short _ (c .before .before .answer .given .1) in search needs
-
-print-requires : tie.Need-print-requires
-print-requires c κs = search needs
-
-enum-known-answer-2 : tie.Need-enum-known-answer-2
-enum-known-answer-2 c = search needs
-
-slice-aggregate-write-all : tie.Need-slice-aggregate-write-all
-slice-aggregate-write-all c = search needs
+part-write-all-end : tie.Need-part-write-all-end
+part-write-all-end c =
+    let short = c .before .before .before .before .before .before .report .ensures .1 .short _ (c .before .before .answer .given .1) in search needs
 
 write-all-requires : tie.Need-write-all-requires
 write-all-requires c κs = search needs
 
+same-length : tie.Need-same-length
+same-length c = search needs
+
 returns : tie.Need-returns
-returns c = search needs
+returns c =
+    let short = c .before .before .before .before .before .before .before .before .before .report .ensures .1 .short _ (c .before .before .before .before .before .answer .given .1) in search needs
+
+slice-aggregate-fail : tie.Need-slice-aggregate-fail
+slice-aggregate-fail c = search needs
+
+fail-requires : tie.Need-fail-requires
+fail-requires c κs = search needs
+
+enum-known-answer-2 : tie.Need-enum-known-answer-2
+enum-known-answer-2 c = search needs
+
+same-length-2 : tie.Need-same-length-2
+same-length-2 c = search needs
 
 returns-2 : tie.Need-returns-2
 returns-2 c = search needs
+
+same-length-3 : tie.Need-same-length-3
+same-length-3 c = search needs
+
+returns-3 : tie.Need-returns-3
+returns-3 c = search needs
 
 pub print-report-spec : {M : Type 1} → statement M
 print-report-spec =
     tie.close
     (tie.spec
-    slice-aggregate-report
     report-requires
     enum-known-answer
-    sub-print
-    part-print-start
-    part-print-end
-    print-requires
-    enum-known-answer-2
-    slice-aggregate-write-all
+    sub-write-all
+    part-write-all-start
+    part-write-all-end
     write-all-requires
+    same-length
     returns
-    returns-2)
+    slice-aggregate-fail
+    fail-requires
+    enum-known-answer-2
+    same-length-2
+    returns-2
+    same-length-3
+    returns-3)

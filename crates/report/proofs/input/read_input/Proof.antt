@@ -1,11 +1,11 @@
--- `report::read_input` meets its contract: a read never gives more than the rest of the buffer, and the loop goes on only after one that
+-- `report::input::read_input` meets its contract: a read never gives more than the rest of the buffer, and the loop goes on only after one that
 -- gave something. Assumes nothing.
 use Prim.Native.Nat.{_≤_, _-_}
 use mathlib.Core.Path.{_≡_}
 use borrow.Author.Needs.{needs}
 use lib.ListN.{length}
-use Rattle.report.proofs.read_input.Statement.{statement}
-use Rattle.report.proofs.read_input.Tie as tie
+use Rattle.report.proofs.input.read_input.Statement.{statement}
+use Rattle.report.proofs.input.read_input.Tie as tie
 
 abbrev Inv-loop : tie.InvT-loop
 Inv-loop buffer₀ taken₀ buffer taken = (length buffer ≡ length buffer₀) × (taken ≤ length buffer)

@@ -1,9 +1,9 @@
--- `report::read_some` ends: each turn leaves a try less. Assumes nothing.
+-- `report::input::read_some` ends: each turn leaves a try less. Assumes nothing.
 use mathlib.Core.Path.{_≡_}
 use borrow.Author.Needs.{needs}
 use lib.ListN.{length}
-use Rattle.report.proofs.read_some.Statement.{statement}
-use Rattle.report.proofs.read_some.Tie as tie
+use Rattle.report.proofs.input.read_some.Statement.{statement}
+use Rattle.report.proofs.input.read_some.Tie as tie
 
 abbrev Inv-loop : tie.InvT-loop
 Inv-loop buffer₀ tries₀ buffer tries = length buffer ≡ length buffer₀

@@ -1,0 +1,48 @@
+-- `report::breaks::show_wires` ends, and the number stays within 16 bits. Assumes nothing.
+use Prim.Native.Nat.{_≤_, _-_}
+use mathlib.Core.Path.{_≡_}
+use lib.ListN.{length}
+use borrow.Author.Needs.{needs}
+use Rattle.report.proofs.breaks.show_wires.Statement.{statement}
+use Rattle.report.proofs.breaks.show_wires.Tie as tie
+
+abbrev Inv-loop : tie.InvT-loop
+Inv-loop text table line wire₀ i₀ i-end wire i = (i-end ≡ length line) × ((i ≤ i-end) × (wire ≤ 65536))
+
+abbrev μ-loop : tie.MeasureT-loop
+μ-loop text table line wire₀ i₀ i-end wire i = i-end - i
+
+loop-holds : tie.Need-loop-holds Inv-loop μ-loop
+loop-holds c = search needs
+
+shared-slice-read-after-byte : tie.Need-shared-slice-read-after-byte Inv-loop μ-loop
+shared-slice-read-after-byte c = search needs
+
+after-byte-requires : tie.Need-after-byte-requires Inv-loop μ-loop
+after-byte-requires c κs = search needs
+
+add-i : tie.Need-add-i Inv-loop μ-loop
+add-i c = search needs
+
+loop-less : tie.Need-loop-less Inv-loop μ-loop
+loop-less c = search needs
+
+loop-again : tie.Need-loop-again Inv-loop μ-loop
+loop-again c = search needs
+
+returns : tie.Need-returns Inv-loop μ-loop
+returns c = search needs
+
+pub show-wires-spec : {M : Type 1} → statement M
+show-wires-spec =
+    tie.close
+    (tie.spec
+    Inv-loop
+    μ-loop
+    loop-holds
+    shared-slice-read-after-byte
+    after-byte-requires
+    add-i
+    loop-less
+    loop-again
+    returns)
