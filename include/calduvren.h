@@ -22,10 +22,10 @@
  *
  * What every function does
  *
- * - It returns a status: 0, or the number of the refusal. A refusal alters no lent memory; the one exception is the
- *   `offset` of calduvren_read_text, which says where in the text the refusal is. The refusals of each function are
- *   listed in the order in which they are tested (those of a text come by their offset first), and nothing else is
- *   refused.
+ * - It returns a status: 0, which is CALDUVREN_OK, or the number of the refusal. A refusal alters no lent memory; the
+ *   one exception is the `offset` of calduvren_read_text, which says where in the text the refusal is. The refusals of
+ *   each function are listed in the order in which they are tested (those of a text come by their offset first), and
+ *   nothing else is refused. Their names stand below, CALDUVREN_REFUSED_...
  * - With status 0 it writes its answer through the pointers. A number that is named below as written is written, and
  *   no other is touched; of a lent buffer nothing is touched past what is written.
  * - Every number may have any value and every buffer any contents. A call always returns, but nothing interrupts it: a
@@ -38,7 +38,10 @@
  * What a caller owes
  *
  * - A pointer that comes with a length is valid for so many elements (bytes, or 16-bit numbers), and a pointer to a
- *   number for that number. No pointer is null, also where the length is 0, and each is aligned for its type.
+ *   number for that number. Each is aligned for its type.
+ * - No pointer is null, also where the length is 0: the library's own compiler promises nothing for a null pointer, so
+ *   this header can not. With length 0 pass the address of any object of the type, as a local variable's. In C++, where
+ *   data() of an empty vector may be null: `uint8_t none = 0;` and `text.empty() ? &none : text.data(), text.size()`.
  * - What a call writes overlaps nothing else that it is given: the lent numbers and the buffers are apart.
  * - No other thread writes to what is lent, or reads what is written, until the call has returned. Beside this any
  *   number of calls may run at the same time: there is no state between calls.
@@ -53,6 +56,14 @@
 #ifdef __cplusplus
 extern "C" {
 #endif
+
+/*
+ * The version, for #if: major * 10000 + minor * 100 + patch, so 10000 is 1.0.0. A version that adds a function raises
+ * the minor number, one that changes what a call with the same arguments answers raises the major one, and any other
+ * the patch. Header and library belong together: the library tells no version of its own, so keep it with the header
+ * that it came with.
+ */
+#define CALDUVREN_VERSION 10000
 
 #define CALDUVREN_MAX_TEXT_BYTES 4096
 #define CALDUVREN_RECORD_BYTES 24
@@ -75,7 +86,35 @@ extern "C" {
 #define CALDUVREN_SUM 2
 #define CALDUVREN_COPY 3
 
-/* 0, or the number of a refusal. */
+/*
+ * The statuses. CALDUVREN_OK says that the call was answered, not that the answer is good: `yes`, `holds` and `clean`
+ * say that. Functions share some of the numbers; each lists its own.
+ */
+#define CALDUVREN_OK 0
+#define CALDUVREN_REFUSED_TEXT_TOO_LONG 1     /* the text has over 4,096 bytes */
+#define CALDUVREN_REFUSED_FIRST_LINE 2        /* the text's first line is wrong */
+#define CALDUVREN_REFUSED_SECOND_LINE 3       /* its second line is wrong or absent */
+#define CALDUVREN_REFUSED_SYMBOL 4            /* no such symbol (as r64 or r01), or a share beyond the order */
+#define CALDUVREN_REFUSED_UNDECLARED_MASK 5   /* a well-formed mask that is not declared */
+#define CALDUVREN_REFUSED_PARENTHESIS 6       /* closed with none open or nothing inside, or left open */
+#define CALDUVREN_REFUSED_BAR 7               /* a bar */
+#define CALDUVREN_REFUSED_DEPTH 8             /* a parenthesis opened when sixteen are open */
+#define CALDUVREN_REFUSED_LINES 9             /* too many output lines, or too few */
+#define CALDUVREN_REFUSED_WIRES 10            /* over 512 wires, or more than the lent table has room for */
+#define CALDUVREN_REFUSED_SHARES_OR_MASKS 11  /* shares not 2 to 8, or masks over 64 */
+#define CALDUVREN_REFUSED_TABLE_LENGTH 12     /* table_length no multiple of 24 or over 12,288, or wires over 512 */
+#define CALDUVREN_REFUSED_RECORD 13           /* a record with a bit beyond shares or masks, or byte 18 over 1 */
+#define CALDUVREN_REFUSED_NOTION 14           /* notion neither NI nor SNI */
+#define CALDUVREN_REFUSED_ORDER 15            /* order not 1 to shares - 1 */
+#define CALDUVREN_REFUSED_BUFFER 16           /* the set or buffer lent for the answer is too short */
+#define CALDUVREN_REFUSED_SIZE 17             /* a set of over 7 wires */
+#define CALDUVREN_REFUSED_RANKS 18            /* ranks that no set has, or from above to */
+#define CALDUVREN_REFUSED_JOBS 19             /* no jobs, over 65,536, or job not below jobs */
+#define CALDUVREN_REFUSED_FUNCTION 20         /* function neither product nor sum nor copy */
+#define CALDUVREN_REFUSED_WIRE_NUMBERS 21     /* wire numbers not strictly rising, or one beyond the table */
+#define CALDUVREN_REFUSED_TEXT_PART 22        /* the wire's part lies outside the text */
+
+/* CALDUVREN_OK, or the number of a refusal. */
 typedef uint64_t calduvren_status;
 
 /*

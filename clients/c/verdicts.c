@@ -22,7 +22,7 @@ struct gadget {
 /* The table comes from the engine, so no later call refuses it. Should one, that must not pass for a verdict. */
 static void expect_answer(calduvren_status status)
 {
-    if (status != 0) {
+    if (status != CALDUVREN_OK) {
         fprintf(stderr, "verdicts: unexpected refusal %" PRIu64 "\n", status);
         exit(2);
     }
@@ -59,7 +59,7 @@ int main(int argument_count, char **arguments)
     calduvren_status status = calduvren_read_text(g.text, g.text_length, g.table, sizeof g.table,
                                                   &g.order, &g.shares, &g.masks, &wires, &offset);
     g.table_length = CALDUVREN_RECORD_BYTES * wires;
-    if (status != 0) {
+    if (status != CALDUVREN_OK) {
         printf("refused %" PRIu64 " at %zu\n", status, offset);
     } else {
         print_verdict(&g, "NI", CALDUVREN_NI);
@@ -69,5 +69,5 @@ int main(int argument_count, char **arguments)
         perror("verdicts");
         return 2;
     }
-    return status != 0;
+    return status != CALDUVREN_OK;
 }

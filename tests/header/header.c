@@ -2,7 +2,8 @@
  * Calls every function of include/calduvren.h through its declaration and compares with what the scope says: accepted
  * inputs, its starred examples among them, and refusals, each with one argument alone out of range, so that a
  * declaration with its arguments in another order than the library's does not pass. (Their names are compared by
- * tests/outside.) All that is lent to be written is compared after each call, also what the call must not touch.
+ * tests/outside.) All that is lent to be written is compared after each call, also what the call must not touch. Each
+ * name of a refusal is compared with the scope's number and with what the library gives in such a case.
  *
  * build: gcc -std=c11 -Wall -Wextra -pedantic -Werror -I include tests/header/header.c
  *            -L target/staticlib -lcalduvren -o target/header
@@ -10,13 +11,17 @@
  *            -L target/staticlib -lcalduvren -o target/header
  *        (each one line, in the repository's root; `rt staticlib calduvren` writes the library)
  * usage: target/header
- * exit status: 0 all calls agree; 1 what differs was printed
+ * exit status: 0 all names and calls agree; 1 what differs was printed
  */
 #include <inttypes.h>
 #include <stdio.h>
 #include <string.h>
 
 #include "calduvren.h"
+
+#if CALDUVREN_VERSION < 10000 || CALDUVREN_VERSION > 999999
+#error "CALDUVREN_VERSION is no major * 10000 + minor * 100 + patch with a major number from 1 to 99"
+#endif
 
 /* All that a call may write. Before each call every byte of it is UNTOUCHED. */
 struct answer {
@@ -67,7 +72,31 @@ static void compare(const char *call, calduvren_status status, calduvren_status 
     memset(&lent, UNTOUCHED, sizeof lent);
     memset(&wanted, UNTOUCHED, sizeof wanted);
 }
-#define COMPARE(call, status) compare(#call, call, status)
+#define ANSWERS(call) compare(#call, call, CALDUVREN_OK)
+#define REFUSES(call, refusal) compare(#call, call, CALDUVREN_REFUSED_##refusal)
+
+/* The refusals in the order of the scope's numbers, from 1. So none is missing, and no two have the same. */
+#define REFUSALS 22u
+#define NAMED(refusal) {#refusal, CALDUVREN_REFUSED_##refusal}
+static const struct {
+    const char *name;
+    calduvren_status number;
+} refusals[REFUSALS] = {
+    NAMED(TEXT_TOO_LONG), NAMED(FIRST_LINE), NAMED(SECOND_LINE), NAMED(SYMBOL), NAMED(UNDECLARED_MASK),
+    NAMED(PARENTHESIS), NAMED(BAR), NAMED(DEPTH), NAMED(LINES), NAMED(WIRES), NAMED(SHARES_OR_MASKS),
+    NAMED(TABLE_LENGTH), NAMED(RECORD), NAMED(NOTION), NAMED(ORDER), NAMED(BUFFER), NAMED(SIZE), NAMED(RANKS),
+    NAMED(JOBS), NAMED(FUNCTION), NAMED(WIRE_NUMBERS), NAMED(TEXT_PART),
+};
+
+static void refusal_names(void)
+{
+    for (unsigned i = 0; i < REFUSALS; i++) {
+        if (refusals[i].number == i + 1)
+            continue;
+        printf("header: CALDUVREN_REFUSED_%s is %" PRIu64 " and not %u\n", refusals[i].name, refusals[i].number, i + 1);
+        differences++;
+    }
+}
 
 static void lay_out(uint8_t *table, const uint8_t wires[][9], size_t count)
 {
@@ -80,6 +109,13 @@ static void lay_out(uint8_t *table, const uint8_t wires[][9], size_t count)
 #define READ(text, text_length, table_length) \
     calduvren_read_text((const uint8_t *)(text), text_length, lent.table, table_length, &lent.order, &lent.shares, \
                         &lent.masks, &lent.wires, &lent.offset)
+
+#define TWO_LINES "ORDER = 1\nMASKS = []\n"
+#define REFUSES_TEXT(text, at, refusal) \
+    do { \
+        wanted.offset = at; \
+        REFUSES(READ(text, strlen(text), CALDUVREN_MAX_TABLE_BYTES), refusal); \
+    } while (0)
 
 static void want_table(size_t masks, const uint8_t *table, size_t table_length)
 {
@@ -95,21 +131,29 @@ static void read_text(void)
     static char spaces[CALDUVREN_MAX_TEXT_BYTES + 1];
     memset(spaces, ' ', sizeof spaces);
     want_table(1, table_a, sizeof table_a);
-    COMPARE(READ(text_a, strlen(text_a), CALDUVREN_MAX_TABLE_BYTES), 0);
+    ANSWERS(READ(text_a, strlen(text_a), CALDUVREN_MAX_TABLE_BYTES));
     want_table(1, table_b, sizeof table_b);
-    COMPARE(READ(text_b, strlen(text_b), sizeof table_b), 0);
+    ANSWERS(READ(text_b, strlen(text_b), sizeof table_b));
     want_table(0, table_c, sizeof table_c);
-    COMPARE(READ(text_c, strlen(text_c), sizeof table_c), 0);
+    ANSWERS(READ(text_c, strlen(text_c), sizeof table_c));
     wanted.offset = CALDUVREN_MAX_TEXT_BYTES;
-    COMPARE(READ(spaces, CALDUVREN_MAX_TEXT_BYTES + 1, CALDUVREN_MAX_TABLE_BYTES), 1);
+    REFUSES(READ(spaces, CALDUVREN_MAX_TEXT_BYTES + 1, CALDUVREN_MAX_TABLE_BYTES), TEXT_TOO_LONG);
     wanted.offset = 0;
-    COMPARE(READ(spaces, CALDUVREN_MAX_TEXT_BYTES, CALDUVREN_MAX_TABLE_BYTES), 2);
-    wanted.offset = 0;
-    COMPARE(READ("", 0, CALDUVREN_MAX_TABLE_BYTES), 2);
-    wanted.offset = 22;
-    COMPARE(READ("ORDER = 1\nMASKS = []\n()\n", 24, CALDUVREN_MAX_TABLE_BYTES), 6);
+    REFUSES(READ(spaces, CALDUVREN_MAX_TEXT_BYTES, CALDUVREN_MAX_TABLE_BYTES), FIRST_LINE);
+    REFUSES_TEXT("", 0, FIRST_LINE);
+    REFUSES_TEXT("ORDER = 1\n", 10, SECOND_LINE);
+    REFUSES_TEXT(TWO_LINES "a2\n", 21, SYMBOL);
+    REFUSES_TEXT(TWO_LINES "r64\n", 21, SYMBOL);
+    REFUSES_TEXT(TWO_LINES "r0\n", 21, UNDECLARED_MASK);
+    REFUSES_TEXT(TWO_LINES ")\n", 21, PARENTHESIS);
+    REFUSES_TEXT(TWO_LINES "()\n", 22, PARENTHESIS);
+    REFUSES_TEXT(TWO_LINES "(a0\n", 24, PARENTHESIS);
+    REFUSES_TEXT(TWO_LINES "a0 | a1\n", 24, BAR);
+    REFUSES_TEXT(TWO_LINES "(((((((((((((((((a0\n", 37, DEPTH);
+    REFUSES_TEXT(TWO_LINES "a0\na1\na1\n", 27, LINES);
+    REFUSES_TEXT(TWO_LINES "a0\n", 24, LINES);
     wanted.offset = strlen(text_a);
-    COMPARE(READ(text_a, strlen(text_a), sizeof table_a - 1), 10);
+    REFUSES(READ(text_a, strlen(text_a), sizeof table_a - 1), WIRES);
 }
 
 #define PART(text_length, table_length, wire) \
@@ -119,25 +163,27 @@ static void text_part(void)
 {
     wanted.offset = 35; /* "(r0 s01) s10" */
     wanted.length = 12;
-    COMPARE(PART(strlen(text_a), sizeof table_a, 7), 0);
-    COMPARE(PART(strlen(text_a), sizeof table_a - 1, 7), 12);
-    COMPARE(PART(strlen(text_a), sizeof table_a, 9), 21);
-    COMPARE(PART(46, sizeof table_a, 7), 22);
+    ANSWERS(PART(strlen(text_a), sizeof table_a, 7));
+    REFUSES(PART(strlen(text_a), sizeof table_a - 1, 7), TABLE_LENGTH);
+    REFUSES(PART(strlen(text_a), sizeof table_a, 9), WIRE_NUMBERS);
+    REFUSES(PART(46, sizeof table_a, 7), TEXT_PART);
 }
 
 static void function_check(void)
 {
     wanted.yes = 1;
-    COMPARE(calduvren_function_check(table_a, sizeof table_a, 2, 1, CALDUVREN_PRODUCT, &lent.yes), 0);
+    ANSWERS(calduvren_function_check(table_a, sizeof table_a, 2, 1, CALDUVREN_PRODUCT, &lent.yes));
     wanted.yes = 1;
-    COMPARE(calduvren_function_check(table_c, sizeof table_c, 2, 0, CALDUVREN_SUM, &lent.yes), 0);
+    ANSWERS(calduvren_function_check(table_c, sizeof table_c, 2, 0, CALDUVREN_SUM, &lent.yes));
     wanted.yes = 0;
-    COMPARE(calduvren_function_check(table_c, sizeof table_c, 2, 0, CALDUVREN_COPY, &lent.yes), 0);
-    COMPARE(calduvren_function_check(table_a, sizeof table_a, CALDUVREN_MAX_SHARES + 1, 1, 1, &lent.yes), 11);
-    COMPARE(calduvren_function_check(table_a, sizeof table_a, 2, CALDUVREN_MAX_MASKS + 1, 1, &lent.yes), 11);
-    COMPARE(calduvren_function_check(table_a, sizeof table_a - 1, 2, 1, 1, &lent.yes), 12);
-    COMPARE(calduvren_function_check(table_a, sizeof table_a, 2, 0, 1, &lent.yes), 13);
-    COMPARE(calduvren_function_check(table_a, sizeof table_a, 2, 1, 4, &lent.yes), 20);
+    ANSWERS(calduvren_function_check(table_c, sizeof table_c, 2, 0, CALDUVREN_COPY, &lent.yes));
+    REFUSES(calduvren_function_check(table_a, sizeof table_a, CALDUVREN_MAX_SHARES + 1, 1, 1, &lent.yes),
+            SHARES_OR_MASKS);
+    REFUSES(calduvren_function_check(table_a, sizeof table_a, 2, CALDUVREN_MAX_MASKS + 1, 1, &lent.yes),
+            SHARES_OR_MASKS);
+    REFUSES(calduvren_function_check(table_a, sizeof table_a - 1, 2, 1, 1, &lent.yes), TABLE_LENGTH);
+    REFUSES(calduvren_function_check(table_a, sizeof table_a, 2, 0, 1, &lent.yes), RECORD);
+    REFUSES(calduvren_function_check(table_a, sizeof table_a, 2, 1, 4, &lent.yes), FUNCTION);
 }
 
 #define JUDGE(table, table_length, shares, masks, notion, order, set_length) \
@@ -153,25 +199,25 @@ static void want_broken(uint16_t wire)
 static void verdict(void)
 {
     wanted.holds = 1;
-    COMPARE(JUDGE(table_a, sizeof table_a, 2, 1, CALDUVREN_NI, 1, 1), 0);
+    ANSWERS(JUDGE(table_a, sizeof table_a, 2, 1, CALDUVREN_NI, 1, 1));
     wanted.holds = 1;
-    COMPARE(JUDGE(table_a, sizeof table_a, 2, 1, CALDUVREN_SNI, 1, 1), 0);
+    ANSWERS(JUDGE(table_a, sizeof table_a, 2, 1, CALDUVREN_SNI, 1, 1));
     want_broken(6);
-    COMPARE(JUDGE(table_b, sizeof table_b, 2, 1, CALDUVREN_NI, 1, 1), 0);
+    ANSWERS(JUDGE(table_b, sizeof table_b, 2, 1, CALDUVREN_NI, 1, 1));
     want_broken(6);
-    COMPARE(JUDGE(table_b, sizeof table_b, CALDUVREN_MAX_SHARES, CALDUVREN_MAX_MASKS, CALDUVREN_SNI,
-                  CALDUVREN_MAX_ORDER, CALDUVREN_MAX_ORDER), 0);
+    ANSWERS(JUDGE(table_b, sizeof table_b, CALDUVREN_MAX_SHARES, CALDUVREN_MAX_MASKS, CALDUVREN_SNI,
+                  CALDUVREN_MAX_ORDER, CALDUVREN_MAX_ORDER));
     wanted.holds = 1;
-    COMPARE(JUDGE(table_c, sizeof table_c, 2, 0, CALDUVREN_NI, 1, 1), 0);
+    ANSWERS(JUDGE(table_c, sizeof table_c, 2, 0, CALDUVREN_NI, 1, 1));
     want_broken(2);
-    COMPARE(JUDGE(table_c, sizeof table_c, 2, 0, CALDUVREN_SNI, 1, 1), 0);
-    COMPARE(JUDGE(table_b, sizeof table_b, 1, 1, CALDUVREN_NI, 1, 1), 11);
-    COMPARE(JUDGE(table_b, sizeof table_b, 2, CALDUVREN_MAX_MASKS + 1, CALDUVREN_NI, 1, 1), 11);
-    COMPARE(JUDGE(table_b, sizeof table_b - 1, 2, 1, CALDUVREN_NI, 1, 1), 12);
-    COMPARE(JUDGE(table_b, sizeof table_b, 2, 0, CALDUVREN_NI, 1, 1), 13);
-    COMPARE(JUDGE(table_b, sizeof table_b, 2, 1, 3, 1, 1), 14);
-    COMPARE(JUDGE(table_b, sizeof table_b, 2, 1, CALDUVREN_NI, 2, 2), 15);
-    COMPARE(JUDGE(table_b, sizeof table_b, 2, 1, CALDUVREN_NI, 1, 0), 16);
+    ANSWERS(JUDGE(table_c, sizeof table_c, 2, 0, CALDUVREN_SNI, 1, 1));
+    REFUSES(JUDGE(table_b, sizeof table_b, 1, 1, CALDUVREN_NI, 1, 1), SHARES_OR_MASKS);
+    REFUSES(JUDGE(table_b, sizeof table_b, 2, CALDUVREN_MAX_MASKS + 1, CALDUVREN_NI, 1, 1), SHARES_OR_MASKS);
+    REFUSES(JUDGE(table_b, sizeof table_b - 1, 2, 1, CALDUVREN_NI, 1, 1), TABLE_LENGTH);
+    REFUSES(JUDGE(table_b, sizeof table_b, 2, 0, CALDUVREN_NI, 1, 1), RECORD);
+    REFUSES(JUDGE(table_b, sizeof table_b, 2, 1, 3, 1, 1), NOTION);
+    REFUSES(JUDGE(table_b, sizeof table_b, 2, 1, CALDUVREN_NI, 2, 2), ORDER);
+    REFUSES(JUDGE(table_b, sizeof table_b, 2, 1, CALDUVREN_NI, 1, 0), BUFFER);
 }
 
 #define RANGE(table_length, shares, masks, notion, size_asked, from, to, set_length) \
@@ -184,20 +230,20 @@ static void range_check(void)
     wanted.clean = 0;
     wanted.size = 1;
     wanted.rank = wanted.set[0] = 7;
-    COMPARE(RANGE(sizeof table_b, 2, 1, CALDUVREN_NI, 1, 7, 9, 1), 0);
+    ANSWERS(RANGE(sizeof table_b, 2, 1, CALDUVREN_NI, 1, 7, 9, 1));
     wanted.clean = 1;
-    COMPARE(RANGE(sizeof table_b, 2, 1, CALDUVREN_NI, 1, 0, 6, 1), 0);
+    ANSWERS(RANGE(sizeof table_b, 2, 1, CALDUVREN_NI, 1, 0, 6, 1));
     wanted.clean = 1; /* the empty set breaks nothing */
-    COMPARE(RANGE(sizeof table_b, 2, 1, CALDUVREN_NI, 0, 0, 1, 0), 0);
-    COMPARE(RANGE(sizeof table_b, 9, 1, CALDUVREN_NI, 1, 7, 9, 1), 11);
-    COMPARE(RANGE(sizeof table_b, 2, 65, CALDUVREN_NI, 1, 7, 9, 1), 11);
-    COMPARE(RANGE(sizeof table_b - 1, 2, 1, CALDUVREN_NI, 1, 7, 9, 1), 12);
-    COMPARE(RANGE(sizeof table_b, 2, 0, CALDUVREN_NI, 1, 7, 9, 1), 13);
-    COMPARE(RANGE(sizeof table_b, 2, 1, 0, 1, 7, 9, 1), 14);
-    COMPARE(RANGE(sizeof table_b, 2, 1, CALDUVREN_NI, CALDUVREN_MAX_SIZE + 1, 0, 0, CALDUVREN_MAX_SIZE + 1), 17);
-    COMPARE(RANGE(sizeof table_b, 2, 1, CALDUVREN_NI, 1, 7, 9, 0), 16);
-    COMPARE(RANGE(sizeof table_b, 2, 1, CALDUVREN_NI, 1, 7, 6, 1), 18);
-    COMPARE(RANGE(sizeof table_b, 2, 1, CALDUVREN_NI, 1, 7, 10, 1), 18);
+    ANSWERS(RANGE(sizeof table_b, 2, 1, CALDUVREN_NI, 0, 0, 1, 0));
+    REFUSES(RANGE(sizeof table_b, 9, 1, CALDUVREN_NI, 1, 7, 9, 1), SHARES_OR_MASKS);
+    REFUSES(RANGE(sizeof table_b, 2, 65, CALDUVREN_NI, 1, 7, 9, 1), SHARES_OR_MASKS);
+    REFUSES(RANGE(sizeof table_b - 1, 2, 1, CALDUVREN_NI, 1, 7, 9, 1), TABLE_LENGTH);
+    REFUSES(RANGE(sizeof table_b, 2, 0, CALDUVREN_NI, 1, 7, 9, 1), RECORD);
+    REFUSES(RANGE(sizeof table_b, 2, 1, 0, 1, 7, 9, 1), NOTION);
+    REFUSES(RANGE(sizeof table_b, 2, 1, CALDUVREN_NI, CALDUVREN_MAX_SIZE + 1, 0, 0, CALDUVREN_MAX_SIZE + 1), SIZE);
+    REFUSES(RANGE(sizeof table_b, 2, 1, CALDUVREN_NI, 1, 7, 9, 0), BUFFER);
+    REFUSES(RANGE(sizeof table_b, 2, 1, CALDUVREN_NI, 1, 7, 6, 1), RANKS);
+    REFUSES(RANGE(sizeof table_b, 2, 1, CALDUVREN_NI, 1, 7, 10, 1), RANKS);
 }
 
 static void numbering(void)
@@ -206,48 +252,62 @@ static void numbering(void)
     static const uint16_t eight[] = {0, 1, 2, 3, 4, 5, 6, 7};
     static const uint16_t seven[] = {0, 4, 5, 6, 7, 8, 511}; /* at a rank of 51 bits */
     wanted.sets = 2829877120;
-    COMPARE(calduvren_set_count(CALDUVREN_MAX_WIRES, 4, &lent.sets), 0);
+    ANSWERS(calduvren_set_count(CALDUVREN_MAX_WIRES, 4, &lent.sets));
     wanted.sets = 287515515392; /* more than 32 bits */
-    COMPARE(calduvren_set_count(CALDUVREN_MAX_WIRES, 5, &lent.sets), 0);
+    ANSWERS(calduvren_set_count(CALDUVREN_MAX_WIRES, 5, &lent.sets));
     wanted.sets = 276;
-    COMPARE(calduvren_set_count(24, 2, &lent.sets), 0);
-    COMPARE(calduvren_set_count(CALDUVREN_MAX_WIRES + 1, 4, &lent.sets), 12);
-    COMPARE(calduvren_set_count(24, CALDUVREN_MAX_SIZE + 1, &lent.sets), 17);
+    ANSWERS(calduvren_set_count(24, 2, &lent.sets));
+    REFUSES(calduvren_set_count(CALDUVREN_MAX_WIRES + 1, 4, &lent.sets), TABLE_LENGTH);
+    REFUSES(calduvren_set_count(24, CALDUVREN_MAX_SIZE + 1, &lent.sets), SIZE);
     memcpy(wanted.set, pair, sizeof pair);
-    COMPARE(calduvren_set_from_rank(24, 2, 1, lent.set, 2), 0);
-    COMPARE(calduvren_set_from_rank(CALDUVREN_MAX_WIRES + 1, 2, 1, lent.set, 2), 12);
-    COMPARE(calduvren_set_from_rank(24, CALDUVREN_MAX_SIZE + 1, 1, lent.set, CALDUVREN_MAX_SIZE + 1), 17);
-    COMPARE(calduvren_set_from_rank(24, 2, 1, lent.set, 1), 16);
-    COMPARE(calduvren_set_from_rank(24, 2, 276, lent.set, 2), 18);
+    ANSWERS(calduvren_set_from_rank(24, 2, 1, lent.set, 2));
+    REFUSES(calduvren_set_from_rank(CALDUVREN_MAX_WIRES + 1, 2, 1, lent.set, 2), TABLE_LENGTH);
+    REFUSES(calduvren_set_from_rank(24, CALDUVREN_MAX_SIZE + 1, 1, lent.set, CALDUVREN_MAX_SIZE + 1), SIZE);
+    REFUSES(calduvren_set_from_rank(24, 2, 1, lent.set, 1), BUFFER);
+    REFUSES(calduvren_set_from_rank(24, 2, 276, lent.set, 2), RANKS);
     memcpy(wanted.set, seven, sizeof seven);
-    COMPARE(calduvren_set_from_rank(CALDUVREN_MAX_WIRES, 7, 1756185841659339, lent.set, 7), 0);
+    ANSWERS(calduvren_set_from_rank(CALDUVREN_MAX_WIRES, 7, 1756185841659339, lent.set, 7));
     wanted.rank = 1756185841659339;
-    COMPARE(calduvren_rank_from_set(CALDUVREN_MAX_WIRES, seven, 7, &lent.rank), 0);
+    ANSWERS(calduvren_rank_from_set(CALDUVREN_MAX_WIRES, seven, 7, &lent.rank));
     wanted.rank = 1;
-    COMPARE(calduvren_rank_from_set(24, pair, 2, &lent.rank), 0);
-    COMPARE(calduvren_rank_from_set(CALDUVREN_MAX_WIRES + 1, pair, 2, &lent.rank), 12);
-    COMPARE(calduvren_rank_from_set(24, eight, CALDUVREN_MAX_SIZE + 1, &lent.rank), 17);
-    COMPARE(calduvren_rank_from_set(2, pair, 2, &lent.rank), 21);
+    ANSWERS(calduvren_rank_from_set(24, pair, 2, &lent.rank));
+    REFUSES(calduvren_rank_from_set(CALDUVREN_MAX_WIRES + 1, pair, 2, &lent.rank), TABLE_LENGTH);
+    REFUSES(calduvren_rank_from_set(24, eight, CALDUVREN_MAX_SIZE + 1, &lent.rank), SIZE);
+    REFUSES(calduvren_rank_from_set(2, pair, 2, &lent.rank), WIRE_NUMBERS);
 }
 
 static void job(void)
 {
     wanted.from = 118;
     wanted.to = 157;
-    COMPARE(calduvren_job(24, 2, 3, 7, &lent.from, &lent.to), 0);
+    ANSWERS(calduvren_job(24, 2, 3, 7, &lent.from, &lent.to));
     wanted.from = 353734640;
     wanted.to = 530601960;
-    COMPARE(calduvren_job(CALDUVREN_MAX_WIRES, 4, 2, 16, &lent.from, &lent.to), 0);
+    ANSWERS(calduvren_job(CALDUVREN_MAX_WIRES, 4, 2, 16, &lent.from, &lent.to));
     wanted.from = 1756159044390079; /* the last of as many jobs as there may be, over 1756185841659392 sets */
     wanted.to = 1756185841659392;
-    COMPARE(calduvren_job(CALDUVREN_MAX_WIRES, CALDUVREN_MAX_SIZE, CALDUVREN_MAX_JOBS - 1, CALDUVREN_MAX_JOBS,
-                          &lent.from, &lent.to), 0);
+    ANSWERS(calduvren_job(CALDUVREN_MAX_WIRES, CALDUVREN_MAX_SIZE, CALDUVREN_MAX_JOBS - 1, CALDUVREN_MAX_JOBS,
+                          &lent.from, &lent.to));
     wanted.from = wanted.to = 0; /* of 276 pairs the first of so many jobs has none */
-    COMPARE(calduvren_job(24, 2, 0, CALDUVREN_MAX_JOBS, &lent.from, &lent.to), 0);
-    COMPARE(calduvren_job(CALDUVREN_MAX_WIRES + 1, 2, 3, 7, &lent.from, &lent.to), 12);
-    COMPARE(calduvren_job(24, CALDUVREN_MAX_SIZE + 1, 3, 7, &lent.from, &lent.to), 17);
-    COMPARE(calduvren_job(24, 2, 7, 7, &lent.from, &lent.to), 19);
-    COMPARE(calduvren_job(24, 2, 3, CALDUVREN_MAX_JOBS + 1, &lent.from, &lent.to), 19);
+    ANSWERS(calduvren_job(24, 2, 0, CALDUVREN_MAX_JOBS, &lent.from, &lent.to));
+    REFUSES(calduvren_job(CALDUVREN_MAX_WIRES + 1, 2, 3, 7, &lent.from, &lent.to), TABLE_LENGTH);
+    REFUSES(calduvren_job(24, CALDUVREN_MAX_SIZE + 1, 3, 7, &lent.from, &lent.to), SIZE);
+    REFUSES(calduvren_job(24, 2, 7, 7, &lent.from, &lent.to), JOBS);
+    REFUSES(calduvren_job(24, 2, 3, CALDUVREN_MAX_JOBS + 1, &lent.from, &lent.to), JOBS);
+}
+
+/* Lengths of 0, each with the address of some object, as the header has it. */
+static void no_elements(void)
+{
+    uint8_t none = 0;
+    uint16_t no_wire = 0;
+    wanted.offset = 0;
+    REFUSES(READ(&none, 0, 0), FIRST_LINE);
+    wanted.holds = 1; /* a table of no wires */
+    ANSWERS(JUDGE(&none, 0, 2, 0, CALDUVREN_SNI, 1, 1));
+    ANSWERS(calduvren_set_from_rank(24, 0, 0, &no_wire, 0));
+    wanted.rank = 0;
+    ANSWERS(calduvren_rank_from_set(24, &no_wire, 0, &lent.rank));
 }
 
 #define REPORT(text, buffer_length) \
@@ -258,11 +318,11 @@ static void report_text(void)
     static const char report[] = "order 1 shares 2 masks 1 wires 9\nfunction product\nNI holds\nSNI holds\n";
     wanted.length = strlen(report);
     memcpy(wanted.buffer, report, strlen(report));
-    COMPARE(REPORT(text_a, CALDUVREN_MAX_REPORT_BYTES), 0);
+    ANSWERS(REPORT(text_a, CALDUVREN_MAX_REPORT_BYTES));
     wanted.length = 15;
     memcpy(wanted.buffer, "refused 2 at 0\n", 15);
-    COMPARE(REPORT("", 15), 0);
-    COMPARE(REPORT(text_a, strlen(report) - 1), 16);
+    ANSWERS(REPORT("", 15));
+    REFUSES(REPORT(text_a, strlen(report) - 1), BUFFER);
 }
 
 int main(void)
@@ -272,6 +332,7 @@ int main(void)
     lay_out(table_c, wires_c, 6);
     memset(&lent, UNTOUCHED, sizeof lent);
     memset(&wanted, UNTOUCHED, sizeof wanted);
+    refusal_names();
     read_text();
     text_part();
     function_check();
@@ -279,10 +340,11 @@ int main(void)
     range_check();
     numbering();
     job();
+    no_elements();
     report_text();
     if (differences == 0)
-        printf("header: %u calls agree\n", calls);
+        printf("header: %u names of refusals and %u calls agree\n", REFUSALS, calls);
     else
-        printf("header: %u of %u calls differ\n", differences, calls);
+        printf("header: of %u names of refusals and %u calls %u differ\n", REFUSALS, calls, differences);
     return differences == 0 ? 0 : 1;
 }

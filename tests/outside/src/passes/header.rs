@@ -1,8 +1,10 @@
 //! The header against the crate and the model: the calls of tests/header hold the order and the types of the arguments
 //! to the library, but nothing their names, and a caller goes by the names. Each declaration of the header has to be
-//! that of the exported function, and each constant what the model goes by. Read from the repository's root.
+//! that of the exported function, and each constant what the model goes by; each refusal of the scope has one name, and
+//! no other number has. Read from the repository's root.
 
 use super::stack::{REPORT_BYTES, STACK_BYTES};
+use crate::answers::REQUIRED;
 use crate::model::breaking::{NI, SNI};
 use crate::model::functions::{COPY, PRODUCT, SUM};
 use crate::model::reading::MAX_TEXT_BYTES;
@@ -10,7 +12,7 @@ use crate::model::records::{MAX_MASKS, MAX_SHARES, MAX_TABLE_BYTES, MAX_WIRES, R
 use crate::model::sets::{MAX_JOBS, MAX_SIZE};
 use crate::random::Random;
 use crate::tally::Tally;
-use std::collections::BTreeMap;
+use std::collections::{BTreeMap, BTreeSet};
 use std::fs::read_to_string;
 
 const HEADER: &str = "include/calduvren.h";
@@ -19,12 +21,19 @@ const CRATE_FILES: [&str; 3] = [
     "crates/calduvren/src/tables.rt",
     "crates/calduvren/src/texts.rt",
 ];
+/// The header's rule: a function more raises the version's minor number, so these two change together.
 const FUNCTIONS: usize = 10;
+const VERSION: usize = 10_000;
 
 /// A function's arguments as C declares them.
 type Declarations = BTreeMap<String, Vec<String>>;
 
-const CONSTANTS: [(&str, usize); 16] = [
+const REFUSED: &str = "CALDUVREN_REFUSED_";
+const REFUSALS: u64 = 22;
+
+/// In the header's order. The refusals have the scope's numbers.
+const CONSTANTS: [(&str, usize); 40] = [
+    ("CALDUVREN_VERSION", VERSION),
     ("CALDUVREN_MAX_TEXT_BYTES", MAX_TEXT_BYTES),
     ("CALDUVREN_RECORD_BYTES", RECORD_BYTES),
     ("CALDUVREN_MAX_WIRES", MAX_WIRES),
@@ -41,6 +50,29 @@ const CONSTANTS: [(&str, usize); 16] = [
     ("CALDUVREN_PRODUCT", PRODUCT),
     ("CALDUVREN_SUM", SUM),
     ("CALDUVREN_COPY", COPY),
+    ("CALDUVREN_OK", 0),
+    ("CALDUVREN_REFUSED_TEXT_TOO_LONG", 1),
+    ("CALDUVREN_REFUSED_FIRST_LINE", 2),
+    ("CALDUVREN_REFUSED_SECOND_LINE", 3),
+    ("CALDUVREN_REFUSED_SYMBOL", 4),
+    ("CALDUVREN_REFUSED_UNDECLARED_MASK", 5),
+    ("CALDUVREN_REFUSED_PARENTHESIS", 6),
+    ("CALDUVREN_REFUSED_BAR", 7),
+    ("CALDUVREN_REFUSED_DEPTH", 8),
+    ("CALDUVREN_REFUSED_LINES", 9),
+    ("CALDUVREN_REFUSED_WIRES", 10),
+    ("CALDUVREN_REFUSED_SHARES_OR_MASKS", 11),
+    ("CALDUVREN_REFUSED_TABLE_LENGTH", 12),
+    ("CALDUVREN_REFUSED_RECORD", 13),
+    ("CALDUVREN_REFUSED_NOTION", 14),
+    ("CALDUVREN_REFUSED_ORDER", 15),
+    ("CALDUVREN_REFUSED_BUFFER", 16),
+    ("CALDUVREN_REFUSED_SIZE", 17),
+    ("CALDUVREN_REFUSED_RANKS", 18),
+    ("CALDUVREN_REFUSED_JOBS", 19),
+    ("CALDUVREN_REFUSED_FUNCTION", 20),
+    ("CALDUVREN_REFUSED_WIRE_NUMBERS", 21),
+    ("CALDUVREN_REFUSED_TEXT_PART", 22),
 ];
 
 pub fn run(_: &mut Random, tally: &mut Tally) {
@@ -54,12 +86,33 @@ pub fn run(_: &mut Random, tally: &mut Tally) {
     }
     let constants: Vec<(&str, usize)> = header.lines().filter_map(constant).collect();
     if constants != CONSTANTS {
-        tally.differs(|| format!("the header has {constants:?}, and the model {CONSTANTS:?}"));
+        let (more, less) = (without(&constants, &CONSTANTS), without(&CONSTANTS, &constants));
+        tally.differs(|| format!("the header alone has {more:?}, the model alone {less:?}; or their order differs"));
     }
-    let (functions, constants) = (in_header.len(), constants.len());
+    let (named, given) = (named_refusals(&constants), given_refusals());
+    if named != given || !given.iter().copied().eq(1..=REFUSALS) {
+        tally.differs(|| format!("the header names the refusals {named:?}, and the model gives {given:?}"));
+    }
+    let (functions, constants, refusals) = (in_header.len(), constants.len(), named.len());
     tally.say(format!(
-        "header          {functions} functions declared as they are exported, {constants} constants as in the model"
+        "header          {functions} functions declared as they are exported, {constants} constants as in the model, \
+         {refusals} refusals named once each"
     ));
+}
+
+/// Rising. A number that has two names stands twice.
+fn named_refusals(constants: &[(&str, usize)]) -> Vec<u64> {
+    let named = constants.iter().filter(|(name, _)| name.starts_with(REFUSED));
+    let mut numbers: Vec<u64> = named.map(|(_, number)| *number as u64).collect();
+    numbers.sort_unstable();
+    numbers
+}
+
+/// Rising, each once: every refusal that this run has to reach in some entry.
+fn given_refusals() -> Vec<u64> {
+    let answers = REQUIRED.iter().flat_map(|(_, _, answers)| answers.iter());
+    let statuses: BTreeSet<u64> = answers.map(|(status, _)| *status).collect();
+    statuses.into_iter().filter(|status| *status != 0).collect()
 }
 
 fn without_comments(text: &str) -> String {
@@ -104,7 +157,13 @@ fn in_c(argument: &str) -> Vec<String> {
     }
 }
 
+fn without<'a>(constants: &[(&'a str, usize)], others: &[(&str, usize)]) -> Vec<(&'a str, usize)> {
+    let mut rest = constants.to_vec();
+    rest.retain(|constant| !others.contains(constant));
+    rest
+}
+
 fn constant(line: &str) -> Option<(&str, usize)> {
     let (name, value) = line.strip_prefix("#define ")?.split_once(' ')?;
-    Some((name, value.parse().ok()?))
+    Some((name, value.trim().parse().expect("a constant is a number")))
 }
