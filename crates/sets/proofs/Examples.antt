@@ -1,4 +1,4 @@
--- The scope's examples on numbering, and both sides of every limit, from the definitions that the contracts cite.
+-- The scope's examples on numbering, and every refusal, from the definitions that the contracts cite.
 use Prim.Native.Nat.{ℕ, _*_, _/_, _%_, _^_, _≤_}
 use native.Mathlib.Omega.{arith}
 use mathlib.Core.Path.{_≡_, refl, ap, subst, _∙_}
