@@ -29,8 +29,8 @@ pub enum Expected {
     Report(Vec<u8>),
     /// The report on this text, whose first breaking set has so many wires under either notion, and its notes.
     Late(Vec<u8>, usize),
-    /// Nothing, and no end either: a verdict on this text that looks at every set, 100 million or more, takes far longer
-    /// than the program is given. One that ends has not looked. That it is long is said.
+    /// Nothing, and no end either: a verdict on this text that looks at every set, 100 million or more, takes far
+    /// longer than the program is given. One that ends has not looked. That it is long is said.
     Long(Vec<u8>),
     /// Nothing, and on standard error a line that names this file, which can not be read or written. If this text takes
     /// long, that is said before.
@@ -186,8 +186,8 @@ fn of_errors() -> Vec<Case> {
     cases
 }
 
-/// A text without notes, one with notes on breaks, one with a note on a refusal, and one with notes before and after the
-/// report.
+/// A text without notes, one with notes on breaks, one with a note on a refusal, and one with notes before and after
+/// the report.
 fn of_every_note() -> [Vec<u8>; 4] {
     [
         A.as_bytes().to_vec(),

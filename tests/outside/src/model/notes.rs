@@ -10,8 +10,8 @@ use std::ops::Range;
 pub const SETS_IN_A_SECOND: u64 = 10_000_000;
 /// So many bytes of a line are shown before the one that is marked, and so many from that one on.
 pub const REACH: usize = 36;
-const REPLACED: &str =
-    "report: ? stands for a byte that is no printing ASCII character; a tab is no space, and only byte 10 ends a line\n";
+const REPLACED: &str = "report: ? stands for a byte that is no printing ASCII character; a tab is no space, and only \
+    byte 10 ends a line\n";
 
 pub struct Notes {
     /// That the check is long, where it is.
@@ -199,12 +199,12 @@ pub fn meaning(cause: Cause) -> &'static str {
         Cause::TextTooLong => "the text is longer than 4096 bytes",
         Cause::FirstLine => "the first line is not exactly \"ORDER = \" and one digit from 1 to 7",
         Cause::SecondLine => {
-            "the second line is not exactly \"MASKS = [\", mask names as in \"r0, r1\" (r0 to r63, none twice) or none, \
-             and \"]\""
+            "the second line is not exactly \"MASKS = [\", mask names as in \"r0, r1\" (r0 to r63, none twice) or \
+             none, and \"]\""
         }
         Cause::NoSymbol => {
-            "no such symbol: products are as s01, shares as a0 and b0, masks as r0 (to r63); a share's number is at most \
-             the order"
+            "no such symbol: products are as s01, shares as a0 and b0, masks as r0 (to r63); a share's number is at \
+             most the order"
         }
         Cause::UndeclaredMask => "this mask is not named in the second line",
         Cause::NoneOpen | Cause::NothingInside => {
@@ -212,10 +212,8 @@ pub fn meaning(cause: Cause) -> &'static str {
         }
         Cause::StillOpen => "a parenthesis is still open where the line ends",
         Cause::Bar => "a bar: registers can not be described yet",
-        Cause::TooDeep => "a parenthesis is opened inside sixteen others",
-        Cause::LineTooMany => {
-            "a line too many: each share has one output line, and shares are one more than the order"
-        }
+        Cause::TooDeep => "a parenthesis is opened inside 16 others",
+        Cause::LineTooMany => "a line too many: each share has one output line, and shares are one more than the order",
         Cause::LinesTooFew => "too few lines: each share has one output line, and shares are one more than the order",
         // The program lends a table for as many wires as may be.
         Cause::TooManyWires | Cause::TableTooShort => "the gadget has more than 512 wires",

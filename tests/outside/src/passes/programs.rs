@@ -1,6 +1,7 @@
 //! The program `report`, as it was built, on texts that come in every way in which a text may come, with inputs that
 //! can not be read and outputs that can not be written. What a program reads and writes is not proved; so what this one
-//! prints is compared with the model's report, and what it says on standard error with the model's notes, byte for byte.
+//! prints is compared with the model's report, and what it says on standard error with the model's notes, byte for
+//! byte.
 
 use super::noted;
 use crate::child::{Error, Input, Outcome, Output};
@@ -22,8 +23,8 @@ const PROGRAM: &str = "target/bin/report";
 const AT_A_TIME: usize = 2;
 /// A child that takes longer hangs. The longest verdicts here are a matter of seconds, on a slow machine too.
 const LIMIT: Duration = Duration::from_secs(60);
-/// A child whose verdicts would take too long is stopped after this, and must not have ended before. It has said by then
-/// that they will, on a slow machine too.
+/// A child whose verdicts would take too long is stopped after this, and must not have ended before. It has said by
+/// then that they will, on a slow machine too.
 const LIMIT_OF_LONG: Duration = Duration::from_secs(1);
 
 /// So many bytes of what a child printed or said are shown where it is wrong.
