@@ -4,7 +4,8 @@
  *
  *   errno        errno is not 0 when the program starts
  *   interrupted  a signal interrupts every other read of standard input
- *   short        a read of standard input gives one byte at most, a write to standard output takes one at most
+ *   short        a read of standard input gives one byte at most, a write to standard output or to standard error
+ *                takes one at most
  *   breaks       standard input gives some bytes, and then a read fails
  *
  * build: gcc -O2 -shared -fPIC tests/outside/odd.c -o target/outside/odd.so     (in the repository's root)
@@ -57,7 +58,7 @@ ssize_t read(int file, void *buffer, size_t length)
 
 ssize_t write(int file, const void *buffer, size_t length)
 {
-    if (file == STDOUT_FILENO && is("short") && length > 1)
+    if ((file == STDOUT_FILENO || file == STDERR_FILENO) && is("short") && length > 1)
         length = 1;
     return syscall(SYS_write, file, buffer, length);
 }

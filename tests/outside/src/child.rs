@@ -45,9 +45,20 @@ pub enum Output {
     Closed,
 }
 
+/// Standard error.
+#[derive(Clone, Copy, PartialEq)]
+pub enum Error {
+    Pipe,
+    /// The pipe of standard output, so that it shows what was written first.
+    WithOutput,
+    Full,
+    Closed,
+}
+
 pub struct Call {
     pub input: Input,
     pub output: Output,
+    pub error: Error,
     /// What is odd about the system.
     pub odd: Option<&'static str>,
 }
@@ -63,11 +74,12 @@ pub struct Outcome {
 }
 
 impl Call {
-    /// With a usual output and nothing odd.
+    /// With pipes for all that is written and nothing odd.
     pub fn on(input: Input) -> Call {
         Call {
             input,
             output: Output::Pipe,
+            error: Error::Pipe,
             odd: None,
         }
     }
@@ -105,21 +117,20 @@ impl Call {
     }
 
     fn start(&self, program: &str, file: Option<&File>) -> Child {
-        let mut command = match (&self.input, self.output) {
-            (Input::Closed, _) => through_shell("exec \"$0\" <&-", program),
-            (_, Output::Closed) => through_shell("exec \"$0\" >&-", program),
-            _ => Command::new(program),
+        let redirections = self.redirections();
+        let mut command = match redirections.is_empty() {
+            true => Command::new(program),
+            false => through_shell(&format!("exec \"$0\"{redirections}"), program),
         };
         command.stdin(match (&self.input, file) {
             (_, Some(file)) => Stdio::from(file.try_clone().expect("a file can be shared")),
             (Input::Closed, _) => Stdio::null(),
             _ => Stdio::piped(),
         });
-        command.stdout(match self.output {
-            Output::Full => Stdio::from(File::options().write(true).open("/dev/full").expect("it can be opened")),
-            _ => Stdio::piped(),
-        });
-        command.stderr(Stdio::piped()).process_group(0);
+        let written = |full: bool| if full { full_device() } else { Stdio::piped() };
+        command.stdout(written(self.output == Output::Full));
+        command.stderr(written(self.error == Error::Full));
+        command.process_group(0);
         if let Some(odd) = self.odd {
             command.env("LD_PRELOAD", ODD).env("ODD", odd);
         }
@@ -127,13 +138,28 @@ impl Call {
             .spawn()
             .unwrap_or_else(|why| panic!("{program} can be started: {why}"))
     }
+
+    /// What only a shell can do to a program's files.
+    fn redirections(&self) -> String {
+        let all = [
+            (matches!(self.input, Input::Closed), " <&-"),
+            (self.output == Output::Closed, " >&-"),
+            (self.error == Error::Closed, " 2>&-"),
+            (self.error == Error::WithOutput, " 2>&1"),
+        ];
+        all.iter().filter(|(done, _)| *done).map(|(_, how)| *how).collect()
+    }
 }
 
 fn opened(path: &PathBuf) -> File {
     File::open(path).unwrap_or_else(|why| panic!("{} can be opened: {why}", path.display()))
 }
 
-/// The shell closes what is to be closed and becomes the program.
+fn full_device() -> Stdio {
+    Stdio::from(File::options().write(true).open("/dev/full").expect("it can be opened"))
+}
+
+/// The shell closes and joins files as the line says, and becomes the program.
 fn through_shell(line: &str, program: &str) -> Command {
     let mut command = Command::new("sh");
     command.args(["-c", line, program]);

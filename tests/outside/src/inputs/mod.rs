@@ -3,6 +3,7 @@
 pub mod calls;
 pub mod damage;
 pub mod gadgets;
+pub mod noted;
 pub mod runs;
 pub mod tables;
 pub mod texts;

@@ -1,13 +1,16 @@
 //! Runs of the program `report`: texts in every way in which a text may come, inputs that can not be read, outputs that
-//! can not be written.
+//! can not be written, and texts for its notes, which standard error may not take.
 
 use super::damage::damaged;
 use super::gadgets::{self, End};
+use super::noted::{self, broken_at_once};
 use super::texts::sound;
-use crate::child::{Call, Input, Output};
+use crate::child::{Call, Error, Input, Output};
 use crate::model::reading::MAX_TEXT_BYTES;
+use crate::model::records::MAX_WIRES;
 use crate::model::report::report;
-use crate::passes::examples::A;
+use crate::model::sets::MAX_SIZE;
+use crate::passes::examples::{A, B};
 use crate::random::Random;
 use std::path::{Path, PathBuf};
 
@@ -20,17 +23,18 @@ const MOST_SETS_OF_DRAWN: u64 = 20_000;
 /// so that the sets stay below 3 million of a size.
 const LATE: [(usize, usize); 5] = [(6, 2), (5, 11), (4, 14), (3, 17), (2, 20)];
 
-/// What the program has to print.
+/// What the program has to print, and to say on standard error.
 pub enum Expected {
-    /// The report on this text.
+    /// The report on this text, and its notes.
     Report(Vec<u8>),
-    /// The report on this text, whose first breaking set has so many wires under either notion.
+    /// The report on this text, whose first breaking set has so many wires under either notion, and its notes.
     Late(Vec<u8>, usize),
-    /// Nothing, and no end either: a verdict that looks at every set, 100 million or more, takes far longer than the
-    /// program is given. One that ends has not looked.
-    Long,
-    /// Nothing, and on standard error a line that begins so.
-    Reason(&'static str),
+    /// Nothing, and no end either: a verdict on this text that looks at every set, 100 million or more, takes far
+    /// longer than the program is given. One that ends has not looked. That it is long is said.
+    Long(Vec<u8>),
+    /// Nothing, and on standard error a line that names this file, which can not be read or written. If this text takes
+    /// long, that is said before.
+    Reason(&'static str, Vec<u8>),
 }
 
 pub struct Case {
@@ -39,10 +43,19 @@ pub struct Case {
 }
 
 pub fn all(random: &mut Random) -> Vec<Case> {
-    [late(), of_files(), of_ways(), of_failures(), drawn(random)]
-        .into_iter()
-        .flatten()
-        .collect()
+    let noted = noted::texts().into_iter().map(|text| at_once(&text)).collect();
+    [
+        late(),
+        of_files(),
+        of_ways(),
+        noted,
+        of_failures(),
+        of_errors(),
+        drawn(random),
+    ]
+    .into_iter()
+    .flatten()
+    .collect()
 }
 
 /// Texts that break only by a set of as many wires as the order, and the same without a break. They come first: the
@@ -52,7 +65,7 @@ fn late() -> Vec<Case> {
     for (order, padding) in LATE {
         for end in [End::Share, End::Mask] {
             let text = gadgets::late(order, end, padding).text();
-            let mut case = in_pieces(&text, text.len(), None);
+            let mut case = at_once(&text);
             if end == End::Share {
                 case.expected = Expected::Late(text, order);
             }
@@ -74,7 +87,7 @@ fn of_files() -> Vec<Case> {
             call: Call::on(Input::File(path)),
             expected: match kind {
                 "report" => Expected::Report(text),
-                _ => Expected::Long,
+                _ => Expected::Long(text),
             },
         }
     };
@@ -93,32 +106,35 @@ fn of_ways() -> Vec<Case> {
         texts.push(vec![byte]);
         texts.extend([0, 9, 24, a.len()].map(|at| [&a[..at], &[byte], &a[at..]].concat()));
     }
-    let mut cases: Vec<Case> = texts
-        .iter()
-        .map(|text| in_pieces(text, text.len().max(1), None))
-        .collect();
+    let mut cases: Vec<Case> = texts.iter().map(|text| at_once(text)).collect();
     cases.push(in_pieces(a, 1, None));
     for length in lengths {
         // The last piece of the longest is a single byte.
         cases.push(in_pieces(&filled(length, b' '), 512, None));
     }
-    let refused = |input| Case {
+    let endless = |input, text| Case {
         call: Call::on(input),
-        expected: Expected::Report(vec![b' '; MAX_TEXT_BYTES + 1]),
+        expected: Expected::Report(text),
     };
-    cases.extend([a.to_vec(), Vec::new()].map(|start| refused(Input::Endless(start))));
-    cases.push(refused(Input::File(PathBuf::from("/dev/zero"))));
+    cases.push(endless(Input::Endless(a.to_vec()), filled(lengths[2], b' ')));
+    cases.push(endless(Input::Endless(Vec::new()), vec![b' '; lengths[2]]));
+    cases.push(endless(Input::File(PathBuf::from("/dev/zero")), vec![0; lengths[2]]));
     for odd in ["errno", "interrupted", "short"] {
         for text in [
-            a.to_vec(),
-            Vec::new(),
-            filled(lengths[1], b' '),
-            filled(lengths[2], b' '),
+            a,
+            B.as_bytes(),
+            b"",
+            &filled(lengths[1], b' '),
+            &filled(lengths[2], b' '),
         ] {
-            cases.push(in_pieces(&text, text.len().max(1), Some(odd)));
+            cases.push(in_pieces(text, text.len().max(1), Some(odd)));
         }
     }
     cases
+}
+
+fn at_once(text: &[u8]) -> Case {
+    in_pieces(text, text.len().max(1), None)
 }
 
 fn in_pieces(text: &[u8], length: usize, odd: Option<&'static str>) -> Case {
@@ -134,26 +150,50 @@ fn in_pieces(text: &[u8], length: usize, odd: Option<&'static str>) -> Case {
 
 /// Inputs that can not be read, at all or to the end, and outputs that can not be written.
 fn of_failures() -> Vec<Case> {
-    let text = || Input::Pieces(vec![A.as_bytes().to_vec()]);
     let no_input = |input, odd| Case {
         call: Call { odd, ..Call::on(input) },
-        expected: Expected::Reason("standard input"),
+        expected: Expected::Reason("standard input", Vec::new()),
     };
-    let no_output = |input, output| Case {
-        call: Call {
-            output,
-            ..Call::on(input)
-        },
-        expected: Expected::Reason("standard output"),
-    };
-    vec![
+    let mut cases = vec![
         no_input(Input::File(PathBuf::from("/")), None),
         no_input(Input::Closed, None),
-        no_input(text(), Some("breaks")),
-        no_output(text(), Output::Full),
-        no_output(text(), Output::Closed),
-        no_output(Input::Pieces(Vec::new()), Output::Full),
-        no_output(Input::Pieces(Vec::new()), Output::Closed),
+        no_input(Input::Pieces(vec![A.as_bytes().to_vec()]), Some("breaks")),
+    ];
+    for text in of_every_note() {
+        for output in [Output::Full, Output::Closed] {
+            cases.push(Case {
+                call: Call {
+                    output,
+                    ..at_once(&text).call
+                },
+                expected: Expected::Reason("standard output", text.clone()),
+            });
+        }
+    }
+    cases
+}
+
+/// Standard errors that take no notes, and one that goes the same way as the report.
+fn of_errors() -> Vec<Case> {
+    let mut cases = Vec::new();
+    for text in of_every_note() {
+        for error in [Error::Full, Error::Closed, Error::WithOutput] {
+            let mut case = at_once(&text);
+            case.call.error = error;
+            cases.push(case);
+        }
+    }
+    cases
+}
+
+/// A text without notes, one with notes on breaks, one with a note on a refusal, and one with notes before and after
+/// the report.
+fn of_every_note() -> [Vec<u8>; 4] {
+    [
+        A.as_bytes().to_vec(),
+        B.as_bytes().to_vec(),
+        Vec::new(),
+        broken_at_once(MAX_SIZE, MAX_WIRES),
     ]
 }
 

@@ -7,7 +7,7 @@ use crate::reply::Reply;
 use crate::tally::Tally;
 
 pub const A: &str = "ORDER = 1\nMASKS = [r0]\ns00 r0\ns11 ((r0 s01) s10)\n";
-const B: &str = "ORDER = 1\nMASKS = [r0]\ns00 r0\ns11 (s01 s10) r0\n";
+pub const B: &str = "ORDER = 1\nMASKS = [r0]\ns00 r0\ns11 (s01 s10) r0\n";
 const C: &str = "ORDER = 1\nMASKS = []\na0 b0\na1 b1\n";
 
 /// The order 2 example of source 002.

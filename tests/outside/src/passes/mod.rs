@@ -6,6 +6,7 @@ mod guards;
 mod header;
 mod jobs;
 mod large;
+mod noted;
 mod programs;
 mod ranges;
 mod reports;

@@ -1,11 +1,14 @@
 //! The program `report`, as it was built, on texts that come in every way in which a text may come, with inputs that
 //! can not be read and outputs that can not be written. What a program reads and writes is not proved; so what this one
-//! prints is compared with the model's report, byte for byte.
+//! prints is compared with the model's report, and what it says on standard error with the model's notes, byte for
+//! byte.
 
-use crate::child::{Input, Outcome, Output};
+use super::noted;
+use crate::child::{Error, Input, Outcome, Output};
 use crate::faults;
 use crate::inputs::calls::show_text;
 use crate::inputs::runs::{self, Case, Expected};
+use crate::model::notes::{Notes, RIGHT};
 use crate::model::reading::MAX_TEXT_BYTES;
 use crate::model::report::report;
 use crate::random::Random;
@@ -20,13 +23,14 @@ const PROGRAM: &str = "target/bin/report";
 const AT_A_TIME: usize = 2;
 /// A child that takes longer hangs. The longest verdicts here are a matter of seconds, on a slow machine too.
 const LIMIT: Duration = Duration::from_secs(60);
-/// A child whose verdicts would take too long is stopped after this, and must not have ended before.
-const LIMIT_OF_LONG: Duration = Duration::from_millis(400);
+/// A child whose verdicts would take too long is stopped after this, and must not have ended before. It has said by
+/// then that they will, on a slow machine too.
+const LIMIT_OF_LONG: Duration = Duration::from_secs(1);
 
-/// So many characters of what a child printed are shown where it is wrong.
+/// So many bytes of what a child printed or said are shown where it is wrong.
 const MOST_SHOWN: usize = 600;
 
-const KINDS: [&str; 7] = [
+const KINDS: [&str; 9] = [
     "holds",
     "broken",
     "broken late",
@@ -34,31 +38,54 @@ const KINDS: [&str; 7] = [
     "long",
     "no input",
     "no output",
+    "no standard error",
+    "in one pipe",
 ];
+
+/// What the model says of a case: the report, or nothing where there is to be none, and the notes.
+struct Model {
+    report: String,
+    notes: Notes,
+}
 
 pub fn run(random: &mut Random, tally: &mut Tally) {
     tally.expect("program", &KINDS);
+    noted::expect(tally);
     let cases = runs::all(random);
     for (case, model, outcome) in run_cases(&cases) {
-        tally.occurs("program", kind(&case.expected, &model));
+        tally.occurs("program", kind(case, &model.report));
         if let Expected::Late(_, size) = case.expected {
-            assert_eq!(sizes_of_breaks(&model), [size, size], "a late break: {}", case.show());
+            assert_eq!(
+                sizes_of_breaks(&model.report),
+                [size, size],
+                "a late break: {}",
+                case.show()
+            );
         }
         if let Err(why) = judge(case, &model, &outcome) {
             tally.differs(|| format!("{PROGRAM}: {why}\n    {}", case.show()));
         }
-        if let (Expected::Report(text) | Expected::Late(text, _), Output::Pipe) = (&case.expected, case.call.output) {
-            let first_piece = match &case.call.input {
-                Input::Pieces(pieces) => pieces.first().map_or(0, Vec::len),
-                _ => text.len(),
-            };
-            faults::program(tally, text, first_piece, &model, &outcome.printed);
+        let pipes = (case.call.output, case.call.error) == (Output::Pipe, Error::Pipe);
+        if let (Expected::Report(text) | Expected::Late(text, _), true) = (&case.expected, pipes) {
+            compare_with_faults(tally, case, text, &model.report, &outcome);
+            noted::count(tally, &model.notes);
         }
     }
 }
 
-/// Each case with the model's report and what came of it. After a child that hangs no other is started.
-fn run_cases(cases: &[Case]) -> Vec<(&Case, String, Outcome)> {
+fn compare_with_faults(tally: &mut Tally, case: &Case, text: &[u8], report: &str, outcome: &Outcome) {
+    let first_piece = match &case.call.input {
+        Input::Pieces(pieces) => pieces.first().map_or(0, Vec::len),
+        _ => text.len(),
+    };
+    faults::program(tally, text, first_piece, report, &outcome.printed);
+    if let Some(said) = outcome.said.strip_prefix(case.witness().as_bytes()) {
+        faults::notes::program(tally, text, report, said);
+    }
+}
+
+/// Each case with what the model says and what came of it. After a child that hangs no other is started.
+fn run_cases(cases: &[Case]) -> Vec<(&Case, Model, Outcome)> {
     let next = AtomicUsize::new(0);
     let done = Mutex::new(Vec::new());
     let work = || {
@@ -82,17 +109,30 @@ fn run_cases(cases: &[Case]) -> Vec<(&Case, String, Outcome)> {
 impl Case {
     fn limit(&self) -> Duration {
         match self.expected {
-            Expected::Long => LIMIT_OF_LONG,
+            Expected::Long(_) => LIMIT_OF_LONG,
             _ => LIMIT,
         }
     }
 
-    /// The report, or nothing where there is to be none.
-    fn model(&self) -> String {
-        match &self.expected {
-            Expected::Report(text) | Expected::Late(text, _) => report(text, u64::MAX).unwrap_or_default(),
-            Expected::Long | Expected::Reason(_) => String::new(),
+    fn model(&self) -> Model {
+        let (text, report) = match &self.expected {
+            Expected::Report(text) | Expected::Late(text, _) => (text, report(text, u64::MAX).unwrap_or_default()),
+            Expected::Long(text) | Expected::Reason(_, text) => (text, String::new()),
+        };
+        let notes = RIGHT.notes(text, &report);
+        if let Expected::Long(_) = self.expected {
+            assert!(
+                !notes.before.is_empty(),
+                "a long check is said to be one: {}",
+                self.show()
+            );
         }
+        Model { report, notes }
+    }
+
+    /// The library that makes the system odd says first that it is there.
+    fn witness(&self) -> String {
+        self.call.odd.map_or(String::new(), |odd| format!("odd: {odd}\n"))
     }
 
     fn show(&self) -> String {
@@ -106,15 +146,17 @@ impl Case {
     }
 }
 
-fn kind(expected: &Expected, model: &str) -> &'static str {
-    match expected {
-        Expected::Reason("standard input") => "no input",
-        Expected::Reason(_) => "no output",
-        Expected::Long => "long",
-        Expected::Late(..) => "broken late",
-        Expected::Report(_) if model.starts_with("refused") => "refused",
-        Expected::Report(_) if model.contains("broken") => "broken",
-        Expected::Report(_) => "holds",
+fn kind(case: &Case, report: &str) -> &'static str {
+    match (&case.expected, case.call.error) {
+        (_, Error::Full | Error::Closed) => "no standard error",
+        (_, Error::WithOutput) => "in one pipe",
+        (Expected::Reason("standard input", _), _) => "no input",
+        (Expected::Reason(..), _) => "no output",
+        (Expected::Long(_), _) => "long",
+        (Expected::Late(..), _) => "broken late",
+        (Expected::Report(_), _) if report.starts_with("refused") => "refused",
+        (Expected::Report(_), _) if report.contains("broken") => "broken",
+        (Expected::Report(_), _) => "holds",
     }
 }
 
@@ -124,36 +166,61 @@ fn sizes_of_breaks(report: &str) -> Vec<usize> {
     sets.map(|(_, set)| set.split(' ').count()).collect()
 }
 
+/// What has to arrive from standard output and from standard error, where there is a report.
+fn wanted(error: Error, Model { report, notes }: &Model) -> [Vec<u8>; 2] {
+    let (report, before, after) = (report.as_bytes(), notes.before.as_slice(), notes.after.as_slice());
+    match error {
+        Error::Pipe => [report.to_vec(), [before, after].concat()],
+        Error::WithOutput => [[before, report, after].concat(), Vec::new()],
+        Error::Full | Error::Closed => [report.to_vec(), Vec::new()],
+    }
+}
+
+/// Whether nothing is said but one line, with the file that can not be read or written and some reason.
+fn is_reason(said: &[u8], file: &str) -> bool {
+    let reason = said.strip_prefix(format!("report: {file}: ").as_bytes());
+    let line = reason.and_then(|reason| reason.strip_suffix(b"\n"));
+    line.is_some_and(|line| !line.is_empty() && !line.contains(&b'\n'))
+}
+
 /// What is wrong with an outcome.
-fn judge(case: &Case, model: &str, outcome: &Outcome) -> Result<(), String> {
-    let printed = String::from_utf8_lossy(&outcome.printed);
-    let said = String::from_utf8_lossy(&outcome.said);
+fn judge(case: &Case, model: &Model, outcome: &Outcome) -> Result<(), String> {
     let ended = outcome.status.is_some_and(|status| status.success());
-    // The library that makes the system odd says first that it is there.
-    let witness = case.call.odd.map_or(String::new(), |odd| format!("odd: {odd}\n"));
-    let Some(reason) = said.strip_prefix(&witness) else {
-        return Err(format!("without {witness:?} on standard error: {said:?}"));
+    let witness = case.witness();
+    let Some(said) = outcome.said.strip_prefix(witness.as_bytes()) else {
+        let said = show_some(&outcome.said);
+        return Err(format!("without {witness:?} on standard error: {said}"));
     };
-    let right = match &case.expected {
-        Expected::Report(_) | Expected::Late(..) => ended && printed == model && reason.is_empty(),
-        Expected::Long => outcome.status.is_none() && printed.is_empty() && reason.is_empty(),
-        Expected::Reason(start) => ended && printed.is_empty() && reason.starts_with(start),
+    let [printed, notes] = wanted(case.call.error, model);
+    let before = model.notes.before.as_slice();
+    let (right, wanted) = match &case.expected {
+        Expected::Report(_) | Expected::Late(..) => (
+            ended && outcome.printed == printed && said == notes,
+            format!("{}, {}", show_some(&printed), show_some(&notes)),
+        ),
+        Expected::Long(_) => (
+            outcome.status.is_none() && outcome.printed.is_empty() && said == before,
+            format!("nothing, {}, and no end in {LIMIT_OF_LONG:?}", show_some(before)),
+        ),
+        Expected::Reason(file, _) => (
+            ended && outcome.printed.is_empty() && said.strip_prefix(before).is_some_and(|said| is_reason(said, file)),
+            format!("nothing, {}, and why there is no {file}", show_some(before)),
+        ),
     };
     if !right {
-        let ended = outcome
+        let end = outcome
             .status
             .map_or(String::from("stopped"), |status| status.to_string());
-        let printed: String = printed.chars().take(MOST_SHOWN).collect();
-        let wanted = match case.expected {
-            Expected::Long => format!("nothing, and no end in {LIMIT_OF_LONG:?}"),
-            _ => format!("{model:?}"),
-        };
-        return Err(format!(
-            "prints {printed:?}, says {said:?}, {ended}; the model: {wanted}"
-        ));
+        let [printed, said] = [&outcome.printed, said].map(show_some);
+        return Err(format!("prints {printed}, says {said}, {end}; the model: {wanted}"));
     }
     match outcome.taken > MAX_TEXT_BYTES as u64 + 1 {
         true => Err(format!("takes {} bytes of its input", outcome.taken)),
         false => Ok(()),
     }
+}
+
+fn show_some(bytes: &[u8]) -> String {
+    let some = &bytes[..bytes.len().min(MOST_SHOWN)];
+    format!("\"{}\"", some.escape_ascii())
 }

@@ -1,6 +1,8 @@
 //! The self-check of the inputs: wrong models, most of them errors that the scope names, run on the inputs of the
 //! passes. Each has to be told from the engine by some input; one that is not shows that the inputs are too weak.
 
+pub mod notes;
+
 use crate::model;
 use crate::model::breaking::{breaks, inner, shares_of_a, shares_of_b, sum, Search, NI, SCOPE, SNI};
 use crate::model::reading::{Reading, MAX_TEXT_BYTES};
@@ -134,6 +136,7 @@ const FIRST_PIECE: &str = "a program takes the first piece for the text";
 pub fn name_all(tally: &mut Tally) {
     PROGRAMS.iter().for_each(|(name, _)| tally.expect_fault(name));
     tally.expect_fault(FIRST_PIECE);
+    notes::name_all(tally);
     VERDICTS.iter().for_each(|(name, _, _)| tally.expect_fault(name));
     for name in [TWO_SYMBOLS, NO_SUMS, TURNED_DOWN, NO_TABLE, CLEAN, INVENTED_COUNT] {
         tally.expect_fault(name);
