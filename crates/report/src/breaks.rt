@@ -1,17 +1,30 @@
 // The wires of a break, each with the part of the text that computes it.
 ghost use Prim.Native.Nat.{_≤_, _<_};
+ghost use lib.ListN.{length};
 use crate::lines;
 use crate::saying::say;
 use crate::saying::say_number;
+use crate::symbols::say_symbols;
+use limits::MAX_SIZE;
 use limits::RECORD_BYTES;
 use reader::PartAnswer;
+use records::sums::Sum;
+use records::sums::added;
 use records::sums::is_outer;
+use records::sums::nothing;
+use records::sums::wire_record;
 use tokens::bytes::digit_value;
 use tokens::bytes::is_digit;
 use tokens::bytes::stands;
 
 // No wire: its numbers have 16 bits.
 const NO_WIRE: usize = 65536;
+
+// The numbers of a line that have been read, and the one that is being read.
+struct Numbers {
+    size: usize,
+    wire: usize,
+}
 
 // Goes by the report: its lines are the order, the function, NI and SNI, and a line that tells a break has the set's wires.
 pub fn explain(text: &[u8], table: &[u8], report: &[u8]) {
@@ -38,26 +51,64 @@ fn say_broken(notion: &[u8], counted: &[u8]) {
     say(b"\n");
 }
 
-// Shows each wire whose number stands in a line of the report. The line has its end, so that no number is the last of it.
+// Shows the wires whose numbers stand in a line of the report.
 fn show_wires(text: &[u8], table: &[u8], line: &[u8]) {
-    let mut wire = NO_WIRE;
-    for i in 0..line.len() {
-        wire = after_byte(text, table, wire, line[i]);
-    }
+    let mut set = [0u16; MAX_SIZE];
+    let size = wires_of(line, &mut set);
+    show_set(text, table, &set[0..size]);
 }
 
-// A digit belongs to a wire's number; any other byte ends it, and the wire is shown.
-fn after_byte(text: &[u8], table: &[u8], wire: usize, byte: u8) -> usize
-    requires { ⌜ wire ≤ 65536 ⌝ }
-    ensures { λ r. ⌜ r ≤ 65536 ⌝ }
-{
-    if is_digit(byte) {
-        return with_digit(wire % NO_WIRE, byte);
-    }
-    if wire < NO_WIRE {
+// Shows each wire of a set, and what their sum names.
+fn show_set(text: &[u8], table: &[u8], set: &[u16]) {
+    let mut sum = nothing();
+    for i in 0..set.len() {
+        let wire = set[i] as usize;
         show_wire(text, table, wire);
+        sum = added(sum, record_of(table, wire));
     }
-    NO_WIRE
+    say(b"    together:");
+    say_symbols(sum);
+    say(b"\n");
+}
+
+// Writes the numbers that stand in a line to a set, and answers how many. The line has its end, so that no number is the last of it.
+fn wires_of(line: &[u8], set: &mut [u16]) -> usize
+    ensures { λ r. ⌜ r ≤ length (now (set .exit)) ⌝ }
+{
+    let mut numbers = Numbers {
+        size: 0,
+        wire: NO_WIRE,
+    };
+    for i in 0..line.len() {
+        numbers = after_byte(set, numbers, line[i]);
+    }
+    numbers.size
+}
+
+// A digit belongs to a wire's number; any other byte ends it.
+fn after_byte(set: &mut [u16], numbers: Numbers, byte: u8) -> Numbers
+    requires { ⌜ (numbers .size ≤ length (now set)) × (numbers .wire ≤ 65536) ⌝ }
+    ensures { λ r. ⌜ (r .size ≤ length (now (set .exit))) × (r .wire ≤ 65536) ⌝ }
+{
+    let size = numbers.size;
+    let wire = numbers.wire;
+    if is_digit(byte) {
+        return Numbers {
+            size: size,
+            wire: with_digit(wire % NO_WIRE, byte),
+        };
+    }
+    if wire < NO_WIRE && size < set.len() {
+        set[size] = wire as u16;
+        return Numbers {
+            size: size + 1,
+            wire: NO_WIRE,
+        };
+    }
+    Numbers {
+        size: size,
+        wire: NO_WIRE,
+    }
 }
 
 // A wire's number has 16 bits, so nothing is cut off.
@@ -91,4 +142,12 @@ fn say_kind(table: &[u8], wire: usize) {
     } else {
         say(b", inner: ");
     }
+}
+
+// A wire of the report is one of the table.
+fn record_of(table: &[u8], wire: usize) -> Sum {
+    if wire < table.len() / RECORD_BYTES {
+        return wire_record(table, wire);
+    }
+    nothing()
 }

@@ -1,6 +1,6 @@
 // The report program: reads a description text from standard input and prints the report on it. Standard output gets the report and nothing
-// else. Standard error gets what helps a reader: how long the check will take, where a text is refused and why, which parts of the text
-// compute the wires of a break.
+// else. Standard error gets what helps a reader: what is wrong with the function, how long the check will take, where a text is refused and
+// why, which parts of the text compute the wires of a break.
 ghost use Prim.Native.Nat.{_≤_};
 ghost use lib.ListN.{length};
 use libc::STDOUT_FILENO;
@@ -12,11 +12,13 @@ use report_text::MAX_REPORT;
 use report_text::ReportAnswer;
 
 mod breaks;
+mod functions;
 mod input;
 mod lines;
 mod refusals;
 mod saying;
 mod sizes;
+mod symbols;
 
 fn main() {
     let mut text = [0u8; INPUT_BYTES];
@@ -47,14 +49,15 @@ fn answer(text: &[u8]) {
             masks,
             wires,
         } => {
-            sizes::warn(wires, order);
-            answer_read(text, &table[0..RECORD_BYTES * wires]);
+            answer_read(text, &table[0..RECORD_BYTES * wires], order, shares, masks);
         }
     }
 }
 
-// The report on a text that was read, and the wires of its breaks.
-fn answer_read(text: &[u8], table: &[u8]) {
+// The report on a text that was read. What is known before the search is said before it, since it may take days.
+fn answer_read(text: &[u8], table: &[u8], order: usize, shares: usize, masks: usize) {
+    functions::warn(table, shares, masks);
+    sizes::warn(table.len() / RECORD_BYTES, order);
     let mut page = [0u8; MAX_REPORT];
     let length = print_report(text, &mut page);
     breaks::explain(text, table, &page[0..length]);

@@ -51,23 +51,24 @@ fn say_meaning(text: &[u8], why: Refusal, offset: usize) {
         }
         Refusal::WrongOrderLine => {
             say_number(
-                b"the first line is not exactly \"ORDER = \" and one digit from 1 to ",
+                b"the first line has to be \"ORDER = \" and one digit from 1 to ",
                 MAX_ORDER as u64,
             );
+            say(b", and nothing else");
         }
         Refusal::WrongMasksLine => {
             say_number(
-                b"the second line is not exactly \"MASKS = [\", mask names as in \"r0, r1\" (r0 to r",
+                b"the second line has to be as \"MASKS = []\" or \"MASKS = [r0, r1]\", masks from r0 to r",
                 LAST_MASK,
             );
-            say(b", none twice) or none, and \"]\"");
+            say(b", none twice, and nothing else");
         }
         Refusal::NoSuchSymbol => {
             say_number(
                 b"no such symbol: products are as s01, shares as a0 and b0, masks as r0 (to r",
                 LAST_MASK,
             );
-            say(b"); a share's number is at most the order");
+            say(b"), share numbers up to the order; there are no operators and no comments");
         }
         Refusal::MaskNotDeclared => say(b"this mask is not named in the second line"),
         Refusal::WrongParenthesis => say_parenthesis(text, offset),
@@ -117,7 +118,7 @@ fn show_line(text: &[u8], start: usize, end: usize, offset: usize)
     say_mark(INDENT + dots + (offset - from));
     if !all_print(&text[from..to]) {
         say(
-            b"report: ? stands for a byte that is no printing ASCII character; a tab is no space, and only byte 10 ends a line\n",
+            b"report: ? stands for a byte that is no printing ASCII character: a tab is no space here, and byte 13 (carriage return) no line end\n",
         );
     }
 }

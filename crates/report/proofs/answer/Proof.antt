@@ -25,12 +25,9 @@ explain-requires c κs = search needs
 enum-known-read-2 : tie.Need-enum-known-read-2
 enum-known-read-2 c = search needs
 
-warn-requires : tie.Need-warn-requires
-warn-requires c κs = search needs
-
 mul-answer-read : tie.Need-mul-answer-read
 mul-answer-read c =
-    let room = room-read _ _ _ _ _ _ _ _ (c .before .before .before .before .before .read-text .ensures .1) (c .before .before .read2 .given .1) in search needs
+    let room = room-read _ _ _ _ _ _ _ _ (c .before .before .before .before .read-text .ensures .1) (c .before .read2 .given .1) in search needs
 
 sub-answer-read : tie.Need-sub-answer-read
 sub-answer-read c = search needs
@@ -40,7 +37,7 @@ part-answer-read-start c = search needs
 
 part-answer-read-end : tie.Need-part-answer-read-end
 part-answer-read-end c =
-    let room = room-read _ _ _ _ _ _ _ _ (c .before .before .before .before .before .before .read-text .ensures .1) (c .before .before .before .read2 .given .1) in search needs
+    let room = room-read _ _ _ _ _ _ _ _ (c .before .before .before .before .before .read-text .ensures .1) (c .before .before .read2 .given .1) in search needs
 
 answer-read-requires : tie.Need-answer-read-requires
 answer-read-requires c κs = search needs
@@ -65,7 +62,6 @@ answer-spec =
     print-report-requires
     explain-requires
     enum-known-read-2
-    warn-requires
     mul-answer-read
     sub-answer-read
     part-answer-read-start

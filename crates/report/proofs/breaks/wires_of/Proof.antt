@@ -1,16 +1,16 @@
--- `report::breaks::show_wires` ends, and the number stays within 16 bits. Assumes nothing.
+-- `report::breaks::wires_of` meets its contract: no more numbers are written than there is room for. Assumes nothing.
 use Prim.Native.Nat.{_≤_, _-_}
 use mathlib.Core.Path.{_≡_}
 use lib.ListN.{length}
 use borrow.Author.Needs.{needs}
-use Rattle.report.proofs.breaks.show_wires.Statement.{statement}
-use Rattle.report.proofs.breaks.show_wires.Tie as tie
+use Rattle.report.proofs.breaks.wires_of.Statement.{statement}
+use Rattle.report.proofs.breaks.wires_of.Tie as tie
 
 abbrev Inv-loop : tie.InvT-loop
-Inv-loop text table line wire₀ i₀ i-end wire i = (i-end ≡ length line) × ((i ≤ i-end) × (wire ≤ 65536))
+Inv-loop line set₀ numbers₀ i₀ i-end set numbers i = (length set ≡ length set₀) × ((i-end ≡ length line) × ((i ≤ i-end) × ((numbers .size ≤ length set) × (numbers .wire ≤ 65536))))
 
 abbrev μ-loop : tie.MeasureT-loop
-μ-loop text table line wire₀ i₀ i-end wire i = i-end - i
+μ-loop line set₀ numbers₀ i₀ i-end set numbers i = i-end - i
 
 loop-holds : tie.Need-loop-holds Inv-loop μ-loop
 loop-holds c = search needs
@@ -30,11 +30,14 @@ loop-less c = search needs
 loop-again : tie.Need-loop-again Inv-loop μ-loop
 loop-again c = search needs
 
+same-length : tie.Need-same-length Inv-loop μ-loop
+same-length c = search needs
+
 returns : tie.Need-returns Inv-loop μ-loop
 returns c = search needs
 
-pub show-wires-spec : {M : Type 1} → statement M
-show-wires-spec =
+pub wires-of-spec : {M : Type 1} → statement M
+wires-of-spec =
     tie.close
     (tie.spec
     Inv-loop
@@ -45,4 +48,5 @@ show-wires-spec =
     add-i
     loop-less
     loop-again
+    same-length
     returns)
