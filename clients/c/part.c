@@ -26,6 +26,13 @@ static void give_up(const char *why)
     exit(2);
 }
 
+/* An answer that did not get out was not given. */
+static void flush(void)
+{
+    if (fflush(stdout) != 0 || ferror(stdout))
+        give_up("the answer can not be printed");
+}
+
 /* Whole digits within 64 bits; anything else must not pass for job 0. */
 static uint64_t number_of(const char *argument)
 {
@@ -65,8 +72,7 @@ static int check_size(const struct gadget *g, const char *name, size_t notion, s
         printf("broken at rank %" PRIu64 " by", rank);
     for (size_t i = 0; i < found; i++)
         printf(i + 1 < found ? " %u" : " %u\n", (unsigned)set[i]);
-    if (fflush(stdout) != 0 || ferror(stdout))
-        give_up("the answer can not be printed");
+    flush();
     return clean != 0;
 }
 
@@ -82,7 +88,8 @@ int main(int argument_count, char **arguments)
                                                   &g.order, &g.shares, &g.masks, &g.wires, &offset);
     if (status != 0) {
         printf("refused %" PRIu64 " at %zu\n", status, offset);
-        return fflush(stdout) != 0 ? 2 : 1;
+        flush();
+        return 1;
     }
     for (size_t size = 1; size <= g.order && check_size(&g, "NI", CALDUVREN_NI, size, job, jobs); size++) {
     }
