@@ -2,6 +2,7 @@
 //! passes. Each has to be told from the engine by some input; one that is not shows that the inputs are too weak.
 
 pub mod notes;
+mod sums;
 
 use crate::model;
 use crate::model::breaking::{breaks, inner, shares_of_a, shares_of_b, sum, Search, NI, SCOPE, SNI};

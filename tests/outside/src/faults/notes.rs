@@ -1,6 +1,8 @@
 //! Wrong notes: each has to be told from those of the program `report` on some text.
 
-use crate::model::notes::{meaning, printing, sets, view, view_by, Shown, View, Way, REACH, RIGHT};
+use super::sums::SUMS;
+use crate::model::lines::{printing, view, view_by, View, REACH};
+use crate::model::notes::{meaning, sets, Notes, Shown, Way, RIGHT};
 use crate::model::sets::count;
 use crate::model::trees::Cause;
 use crate::tally::Tally;
@@ -166,14 +168,13 @@ const NOTES: [(&str, Way); 22] = [
 ];
 
 pub fn name_all(tally: &mut Tally) {
-    NOTES.iter().for_each(|(name, _)| tally.expect_fault(name));
+    NOTES.iter().chain(&SUMS).for_each(|(name, _)| tally.expect_fault(name));
 }
 
-/// On a text whose report is given too, and on what the program said.
-pub fn program(tally: &mut Tally, text: &[u8], report: &str, said: &[u8]) {
-    for (name, way) in &NOTES {
-        let notes = way.notes(text, report);
-        tally.fault(name, [notes.before, notes.after].concat() != said);
+/// On a text whose report is given too. `differ` tells whether notes are not those that came from the program.
+pub fn program(tally: &mut Tally, text: &[u8], report: &str, differ: impl Fn(&Notes) -> bool) {
+    for (name, way) in NOTES.iter().chain(&SUMS) {
+        tally.fault(name, differ(&way.notes(text, report)));
     }
 }
 

@@ -5,6 +5,7 @@ pub mod damage;
 pub mod gadgets;
 pub mod noted;
 pub mod runs;
+pub mod sums;
 pub mod tables;
 pub mod texts;
 

@@ -3,7 +3,8 @@
 //! texts of so many sets that the program says so, each broken by a single wire so that it ends at once.
 
 use super::gadgets::{self, End};
-use crate::model::notes::{sets, REACH, SETS_IN_A_SECOND};
+use crate::model::lines::REACH;
+use crate::model::notes::{sets, SETS_IN_A_SECOND};
 use crate::model::reading::MAX_TEXT_BYTES;
 use crate::model::records::MAX_WIRES;
 use crate::model::sets::MAX_SIZE;

@@ -2,8 +2,9 @@
 //! can not be written, and texts for its notes, which standard error may not take.
 
 use super::damage::damaged;
-use super::gadgets::{self, End};
+use super::gadgets::{self, Cross, End};
 use super::noted::{self, broken_at_once};
+use super::sums;
 use super::texts::sound;
 use crate::child::{Call, Error, Input, Output};
 use crate::model::reading::MAX_TEXT_BYTES;
@@ -30,10 +31,11 @@ pub enum Expected {
     /// The report on this text, whose first breaking set has so many wires under either notion, and its notes.
     Late(Vec<u8>, usize),
     /// Nothing, and no end either: a verdict on this text that looks at every set, 100 million or more, takes far
-    /// longer than the program is given. One that ends has not looked. That it is long is said.
+    /// longer than the program is given. One that ends has not looked. That it is long is said, and so is what the
+    /// function is not.
     Long(Vec<u8>),
-    /// Nothing, and on standard error a line that names this file, which can not be read or written. If this text takes
-    /// long, that is said before.
+    /// Nothing, and on standard error a line that names this file, which can not be read or written. What there is to
+    /// say on this text before its report stands before that.
     Reason(&'static str, Vec<u8>),
 }
 
@@ -43,9 +45,11 @@ pub struct Case {
 }
 
 pub fn all(random: &mut Random) -> Vec<Case> {
-    let noted = noted::texts().into_iter().map(|text| at_once(&text)).collect();
+    let noted = [noted::texts(), sums::texts()].concat();
+    let noted = noted.iter().map(|text| at_once(text)).collect();
     [
         late(),
+        long(),
         of_files(),
         of_ways(),
         noted,
@@ -73,6 +77,19 @@ fn late() -> Vec<Case> {
         }
     }
     cases
+}
+
+/// Gadgets that hold, of so many sets that nobody waits, one for the product and one for a copy but for some symbols:
+/// both notes have to be there before a verdict is begun.
+fn long() -> Vec<Case> {
+    let mut product = gadgets::multiplication(MAX_SIZE, |_, _| Cross::MaskFirst);
+    product.lines[MAX_SIZE] = product.lines[MAX_SIZE].replace("s77 ", "");
+    let texts = [product, gadgets::late(MAX_SIZE, End::Mask, 40)].map(|gadget| gadget.text());
+    let case = |text: Vec<u8>| Case {
+        call: at_once(&text).call,
+        expected: Expected::Long(text),
+    };
+    texts.map(case).into()
 }
 
 /// Every text of the list, as a file.
@@ -123,6 +140,7 @@ fn of_ways() -> Vec<Case> {
         for text in [
             a,
             B.as_bytes(),
+            sums::ANOTHER.as_bytes(),
             b"",
             &filled(lengths[1], b' '),
             &filled(lengths[2], b' '),
@@ -186,14 +204,16 @@ fn of_errors() -> Vec<Case> {
     cases
 }
 
-/// A text without notes, one with notes on breaks, one with a note on a refusal, and one with notes before and after
-/// the report.
-fn of_every_note() -> [Vec<u8>; 4] {
+/// A text without notes, one with notes on breaks, one with a note on the function, one with notes on its length and on
+/// breaks, one with all of these, and one with a note on a refusal.
+fn of_every_note() -> [Vec<u8>; 6] {
     [
         A.as_bytes().to_vec(),
         B.as_bytes().to_vec(),
-        Vec::new(),
+        sums::ANOTHER.as_bytes().to_vec(),
+        sums::long_product(),
         broken_at_once(MAX_SIZE, MAX_WIRES),
+        Vec::new(),
     ]
 }
 

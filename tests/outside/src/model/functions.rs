@@ -10,16 +10,27 @@ pub const COPY: usize = 3;
 const MOST_TRIED_BITS: usize = 9;
 
 pub fn computes(records: &[Record], shares: usize, masks: usize, function: usize) -> bool {
-    let outer: Vec<Record> = records.iter().copied().filter(|record| record.is_outer()).collect();
-    let by_records = sum_is(&outer, shares, function);
+    // Two sums of different products, shares and masks differ in value somewhere; so the sum has to be the function's.
+    let by_records = sum_of_outputs(records) == own_sum(shares, function);
     if 2 * shares + masks <= MOST_TRIED_BITS {
         assert_eq!(
             by_records,
-            values_are(&outer, shares, masks, function),
+            values_are(&outer(records), shares, masks, function),
             "the model contradicts itself"
         );
     }
     by_records
+}
+
+fn outer(records: &[Record]) -> Vec<Record> {
+    records.iter().copied().filter(|record| record.is_outer()).collect()
+}
+
+/// What the output lines add up to.
+pub fn sum_of_outputs(records: &[Record]) -> Record {
+    outer(records)
+        .into_iter()
+        .fold(Record::default(), |sum, wire| sum.plus(wire))
 }
 
 /// For every input and mask setting, the outer wires' bits add up to the function's.
@@ -38,9 +49,8 @@ fn values_are(outer: &[Record], shares: usize, masks: usize, function: usize) ->
     })
 }
 
-/// Two sums of different products, shares and masks differ in value somewhere; so the sum has to be the function's own.
-fn sum_is(outer: &[Record], shares: usize, function: usize) -> bool {
-    let sum = outer.iter().fold(Record::default(), |sum, wire| sum.plus(*wire));
+/// What the output lines of a gadget for the function add up to.
+pub fn own_sum(shares: usize, function: usize) -> Record {
     let mut wanted = Record::default();
     for i in 0..shares {
         if function == PRODUCT {
@@ -53,5 +63,5 @@ fn sum_is(outer: &[Record], shares: usize, function: usize) -> bool {
             wanted = wanted.plus(Record::share_of_a(i));
         }
     }
-    sum == wanted
+    wanted
 }

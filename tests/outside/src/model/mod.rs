@@ -3,6 +3,7 @@
 
 pub mod breaking;
 pub mod functions;
+pub mod lines;
 pub mod notes;
 pub mod reading;
 pub mod records;

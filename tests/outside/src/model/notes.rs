@@ -1,31 +1,23 @@
 //! The notes on a report: what the program `report` says on standard error, before the report and after it. They follow
 //! from the text and the report alone.
 
+use super::functions::{own_sum, sum_of_outputs, COPY, PRODUCT, SUM};
+use super::lines::{byte, line, line_of, view, View};
 use super::reading::{read, Reading, MAX_TEXT_BYTES};
 use super::records::{Record, MAX_TABLE_BYTES};
+use super::report::function;
 use super::sets::count;
+use super::symbols::names;
 use super::trees::{Cause, Fault};
-use std::ops::Range;
 
 pub const SETS_IN_A_SECOND: u64 = 10_000_000;
-/// So many bytes of a line are shown before the one that is marked, and so many from that one on.
-pub const REACH: usize = 36;
-const REPLACED: &str = "report: ? stands for a byte that is no printing ASCII character; a tab is no space, and only \
-    byte 10 ends a line\n";
+const REPLACED: &str = "report: ? stands for a byte that is no printing ASCII character: a tab is no space here, and \
+    byte 13 (carriage return) no line end\n";
 
 pub struct Notes {
-    /// That the check is long, where it is.
+    /// In what the function differs, where it is another one, and that the check is long, where it is.
     pub before: Vec<u8>,
     pub after: Vec<u8>,
-}
-
-/// A line as it is shown.
-pub struct View {
-    pub shown: Vec<u8>,
-    /// How many columns stand before the mark.
-    pub mark: usize,
-    /// Whether a ? stands for another byte.
-    pub replaced: bool,
 }
 
 /// The wires of a breaking set, where a notion is broken.
@@ -35,6 +27,12 @@ pub type Shown = Option<Vec<usize>>;
 pub struct Way {
     /// No more bytes than these are taken for the text.
     pub most_bytes: usize,
+    /// What the output lines add up to, which function that is compared with where it is none, that function's own sum
+    /// for so many shares, and what is told of the two sums.
+    pub outputs: fn(&[Record]) -> Record,
+    pub target: fn(Record) -> usize,
+    pub own: fn(usize, usize) -> Record,
+    pub difference: fn(Record, Record) -> Record,
     /// The sets of both verdicts, of so many wires and at an order; from how many on the check is long; and its time,
     /// from seconds.
     pub sets: fn(usize, usize) -> u64,
@@ -51,11 +49,20 @@ pub struct Way {
     pub kind: fn(Record) -> &'static str,
     /// The wire whose part is shown for a wire.
     pub part: fn(&[Record], usize) -> Record,
+    /// What the wires of a set add up to.
+    pub together: fn(&[Record], &[usize]) -> Record,
+    pub names: fn(Record) -> Vec<String>,
+    /// The note on the function, that on the length, and those on a refusal or on breaks, as they are written.
+    pub arranged: fn([Vec<u8>; 3]) -> Notes,
 }
 
 pub const RIGHT: Way = Way {
     // One more than a text may have, which tells that it is too long.
     most_bytes: MAX_TEXT_BYTES + 1,
+    outputs: sum_of_outputs,
+    target,
+    own: own_sum,
+    difference: Record::plus,
     sets,
     long_from: 50_000_000,
     time,
@@ -66,22 +73,42 @@ pub const RIGHT: Way = Way {
     shown: |sets| sets,
     kind: |wire| if wire.is_outer() { "outer" } else { "inner" },
     part: |wires, wire| wires[wire],
+    together: |wires, set| set.iter().fold(Record::default(), |sum, wire| sum.plus(wires[*wire])),
+    names,
+    arranged: |[function, length, after]| Notes {
+        before: [function, length].concat(),
+        after,
+    },
 };
 
 impl Way {
     /// The notes for a text and its report. Without the report there is no note on a break.
     pub fn notes(&self, text: &[u8], report: &str) -> Notes {
         let text = &text[..text.len().min(self.most_bytes)];
-        match read(text, MAX_TABLE_BYTES) {
-            Err(fault) => Notes {
-                before: Vec::new(),
-                after: self.on_refusal(text, fault),
-            },
-            Ok(reading) => Notes {
-                before: self.on_length(&reading),
-                after: self.on_breaks(text, &reading.wires, report),
-            },
+        (self.arranged)(match read(text, MAX_TABLE_BYTES) {
+            Err(fault) => [Vec::new(), Vec::new(), self.on_refusal(text, fault)],
+            Ok(reading) => [
+                self.on_function(&reading),
+                self.on_length(&reading),
+                self.on_breaks(text, &reading.wires, report),
+            ],
+        })
+    }
+
+    fn on_function(&self, reading: &Reading) -> Vec<u8> {
+        if function(reading) != "other" {
+            return Vec::new();
         }
+        let sum = (self.outputs)(&reading.wires);
+        let target = (self.target)(sum);
+        let wanted = match target {
+            PRODUCT => "the product of a and b",
+            SUM => "the sum of a and b",
+            _ => "a copy of a",
+        };
+        let difference = (self.difference)(sum, (self.own)(reading.shares(), target));
+        let symbols = (self.names)(difference).join(" ");
+        format!("report: function other: the output lines differ from {wanted} in {symbols}\n").into_bytes()
     }
 
     fn on_length(&self, reading: &Reading) -> Vec<u8> {
@@ -119,16 +146,26 @@ impl Way {
             };
             let sum = "these wires add up to a sum without masks that depends on more shares of a, or of b,";
             notes.extend(format!("report: {notion} is broken: {sum} than there are {counted}\n").bytes());
-            for wire in set {
-                let part = (self.part)(wires, wire);
+            for wire in &set {
+                let part = (self.part)(wires, *wire);
                 let (from, length) = (usize::from(part.offset), usize::from(part.length));
-                let (line, kind) = ((self.line)(text, from), (self.kind)(wires[wire]));
+                let (line, kind) = ((self.line)(text, from), (self.kind)(wires[*wire]));
                 notes.extend(format!("    wire {wire}, line {line}, {kind}: ").bytes());
                 notes.extend(&text[from..from + length]);
                 notes.push(b'\n');
             }
+            let symbols = (self.names)((self.together)(wires, &set)).join(" ");
+            notes.extend(format!("    together: {symbols}\n").bytes());
         }
         notes
+    }
+}
+
+fn target(sum: Record) -> usize {
+    match (sum.products, sum.b) {
+        (0, 0) => COPY,
+        (0, _) => SUM,
+        _ => PRODUCT,
     }
 }
 
@@ -146,47 +183,6 @@ fn time(seconds: u64) -> String {
     }
 }
 
-fn line(text: &[u8], offset: usize) -> usize {
-    text[..offset].iter().filter(|byte| **byte == b'\n').count() + 1
-}
-
-fn byte(text: &[u8], offset: usize) -> usize {
-    offset - line_of(text, offset).start + 1
-}
-
-/// The bytes around an offset without a line end.
-fn line_of(text: &[u8], offset: usize) -> Range<usize> {
-    let ends = |byte: &u8| *byte == b'\n';
-    let start = text[..offset].iter().rposition(ends).map_or(0, |end| end + 1);
-    let end = text[offset..].iter().position(ends);
-    start..end.map_or(text.len(), |length| offset + length)
-}
-
-pub fn view(line: &[u8], at: usize) -> View {
-    view_by([REACH, REACH], printing, line, at)
-}
-
-/// The view of up to so many bytes before the mark and from it on, each shown as `shows` has it.
-pub fn view_by([before, from]: [usize; 2], shows: fn(u8) -> u8, line: &[u8], at: usize) -> View {
-    let window = at.saturating_sub(before)..line.len().min(at + from);
-    let dots = |left_out: usize| if left_out > 0 { "..".as_bytes() } else { b"" };
-    let [left, right] = [window.start, line.len() - window.end].map(dots);
-    let bytes: Vec<u8> = line[window.clone()].iter().map(|byte| shows(*byte)).collect();
-    View {
-        mark: left.len() + at - window.start,
-        replaced: bytes != line[window],
-        shown: [left, &bytes, right].concat(),
-    }
-}
-
-/// The byte itself where it is a printing one, otherwise what stands for it.
-pub fn printing(byte: u8) -> u8 {
-    match byte {
-        b' '..=b'~' => byte,
-        _ => b'?',
-    }
-}
-
 fn set_of(report: &str, notion: &str) -> Shown {
     let start = format!("{notion} broken ");
     let set = report.lines().find_map(|line| line.strip_prefix(start.as_str()))?;
@@ -197,14 +193,14 @@ fn set_of(report: &str, notion: &str) -> Shown {
 pub fn meaning(cause: Cause) -> &'static str {
     match cause {
         Cause::TextTooLong => "the text is longer than 4096 bytes",
-        Cause::FirstLine => "the first line is not exactly \"ORDER = \" and one digit from 1 to 7",
+        Cause::FirstLine => "the first line has to be \"ORDER = \" and one digit from 1 to 7, and nothing else",
         Cause::SecondLine => {
-            "the second line is not exactly \"MASKS = [\", mask names as in \"r0, r1\" (r0 to r63, none twice) or \
-             none, and \"]\""
+            "the second line has to be as \"MASKS = []\" or \"MASKS = [r0, r1]\", masks from r0 to r63, none twice, \
+             and nothing else"
         }
         Cause::NoSymbol => {
-            "no such symbol: products are as s01, shares as a0 and b0, masks as r0 (to r63); a share's number is at \
-             most the order"
+            "no such symbol: products are as s01, shares as a0 and b0, masks as r0 (to r63), share numbers up to the \
+             order; there are no operators and no comments"
         }
         Cause::UndeclaredMask => "this mask is not named in the second line",
         Cause::NoneOpen | Cause::NothingInside => {

@@ -58,6 +58,17 @@ impl Record {
         }
     }
 
+    /// What is named in both.
+    pub fn common(self, other: Record) -> Record {
+        Record {
+            products: self.products & other.products,
+            masks: self.masks & other.masks,
+            a: self.a & other.a,
+            b: self.b & other.b,
+            ..Record::default()
+        }
+    }
+
     pub fn is_outer(self) -> bool {
         self.outer == 1
     }

@@ -38,13 +38,16 @@ pub fn opening(text: &[u8]) -> (String, Option<Reading>) {
         Ok(reading) => reading,
         Err(Fault { cause, offset }) => return (format!("refused {} at {offset}\n", cause.number_and_word().0), None),
     };
-    let (order, shares, masks) = (reading.order, reading.shares(), reading.masks);
+    let (order, shares, masks, wires) = (reading.order, reading.shares(), reading.masks, reading.wires.len());
+    let function = function(&reading);
+    let lines = format!("order {order} shares {shares} masks {masks} wires {wires}\nfunction {function}\n");
+    (lines, Some(reading))
+}
+
+pub fn function(reading: &Reading) -> &'static str {
     let named = [(PRODUCT, "product"), (SUM, "sum"), (COPY, "copy")];
     let computed = named
         .iter()
-        .find(|(number, _)| computes(&reading.wires, shares, masks, *number));
-    let function = computed.map_or("other", |(_, name)| name);
-    let wires = reading.wires.len();
-    let lines = format!("order {order} shares {shares} masks {masks} wires {wires}\nfunction {function}\n");
-    (lines, Some(reading))
+        .find(|(number, _)| computes(&reading.wires, reading.shares(), reading.masks, *number));
+    computed.map_or("other", |(_, name)| name)
 }

@@ -1,6 +1,6 @@
 //! The two first lines and the symbols of a description, by lists of all that may stand there.
 
-use super::records::{Record, MAX_MASKS};
+use super::records::{Record, MAX_MASKS, MAX_SHARES};
 use std::collections::HashMap;
 use std::sync::OnceLock;
 
@@ -58,6 +58,18 @@ pub fn masks_of(line: &[u8]) -> Option<u64> {
         declared |= mask;
     }
     Some(declared)
+}
+
+/// The symbols that a sum names: products, by the share of a and then by that of b, shares of a, of b, and masks.
+pub fn names(sum: Record) -> Vec<String> {
+    let pairs = (0..MAX_SHARES).flat_map(|i| (0..MAX_SHARES).map(move |j| (i, j)));
+    let products = pairs.map(|(i, j)| (format!("s{i}{j}"), Record::product(i, j)));
+    let shares_of_a = (0..MAX_SHARES).map(|i| (format!("a{i}"), Record::share_of_a(i)));
+    let shares_of_b = (0..MAX_SHARES).map(|j| (format!("b{j}"), Record::share_of_b(j)));
+    let masks = (0..MAX_MASKS).map(|k| (format!("r{k}"), Record::mask(k)));
+    let all = products.chain(shares_of_a).chain(shares_of_b).chain(masks);
+    let named = all.filter(|(_, symbol)| sum.common(*symbol) == *symbol);
+    named.map(|(name, _)| name).collect()
 }
 
 /// Every symbol that may stand in an output line at an order, all masks among them, by its bytes.

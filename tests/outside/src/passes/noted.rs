@@ -3,6 +3,8 @@
 use crate::model::notes::Notes;
 use crate::tally::Tally;
 
+const OTHER: &str = "report: function other: the output lines differ from ";
+
 /// Each kind with what is in the notes of it, and of no other.
 const KINDS: [(&str, &str); 24] = [
     ("1", ": the text is longer"),
@@ -30,6 +32,36 @@ const KINDS: [(&str, &str); 24] = [
     ("days", " days;"),
     ("years", " years;"),
 ];
+
+/// Each function with a kind of symbols in which another may differ from it. With a product it is compared with the
+/// product, with a share of b and no product with a sum.
+const DIFFERENCES: [(&str, &str, &str); 9] = [
+    ("product s", "the product of a and b", "s"),
+    ("product a", "the product of a and b", "a"),
+    ("product b", "the product of a and b", "b"),
+    ("product r", "the product of a and b", "r"),
+    ("sum a", "the sum of a and b", "a"),
+    ("sum b", "the sum of a and b", "b"),
+    ("sum r", "the sum of a and b", "r"),
+    ("copy a", "a copy of a", "a"),
+    ("copy r", "a copy of a", "r"),
+];
+
+/// The kinds of symbols that the sum of a breaking set may name.
+const TOGETHER: [(&str, &str); 7] = [
+    ("together s", "s"),
+    ("together a", "a"),
+    ("together b", "b"),
+    ("together s a", "sa"),
+    ("together s b", "sb"),
+    ("together a b", "ab"),
+    ("together s a b", "sab"),
+];
+
+const TWO_DIGITS: &str = "masks of one digit and of two";
+const FUNCTION_ALONE: &str = "function alone";
+const LENGTH_ALONE: &str = "length alone";
+const FUNCTION_AND_LENGTH: &str = "function and length";
 const EMPTY_LINE: &str = "of an empty line";
 const SNI_ALONE: &str = "SNI alone";
 const DIFFERENT_SETS: &str = "different sets";
@@ -38,6 +70,12 @@ const NONE: &str = "none";
 
 pub fn expect(tally: &mut Tally) {
     tally.expect("notes", &KINDS.map(|(kind, _)| kind));
+    tally.expect("notes", &DIFFERENCES.map(|(kind, _, _)| kind));
+    tally.expect("notes", &TOGETHER.map(|(kind, _)| kind));
+    tally.expect(
+        "notes",
+        &[TWO_DIGITS, FUNCTION_ALONE, LENGTH_ALONE, FUNCTION_AND_LENGTH],
+    );
     tally.expect("notes", &[EMPTY_LINE, SNI_ALONE, DIFFERENT_SETS, LONG, NONE]);
 }
 
@@ -48,9 +86,15 @@ pub fn count(tally: &mut Tally, Notes { before, after }: &Notes) {
             tally.occurs("notes", kind);
         }
     }
+    count_sums(tally, &before, &after);
     let parts = |notes: &str| notes.lines().skip(1).map(String::from).collect::<Vec<_>>();
     let sets = after.split_once("report: SNI").map(|(ni, sni)| (parts(ni), parts(sni)));
+    let (function, length) = (before.contains(OTHER), before.contains(" sets to look at"));
     let others = [
+        (TWO_DIGITS, before.contains(" r9 r10")),
+        (FUNCTION_ALONE, function && !length && after.is_empty()),
+        (LENGTH_ALONE, length && !function),
+        (FUNCTION_AND_LENGTH, function && length),
         (
             EMPTY_LINE,
             after.starts_with("report: line") && parts(&after).is_empty(),
@@ -66,4 +110,26 @@ pub fn count(tally: &mut Tally, Notes { before, after }: &Notes) {
     for (kind, _) in others.iter().filter(|(_, occurs)| *occurs) {
         tally.occurs("notes", kind);
     }
+}
+
+fn count_sums(tally: &mut Tally, before: &str, after: &str) {
+    let other = before.lines().find_map(|line| line.strip_prefix(OTHER));
+    if let Some((function, symbols)) = other.and_then(|other| other.split_once(" in ")) {
+        for (kind, of, symbol) in DIFFERENCES {
+            if of == function && kinds_of(symbols).contains(symbol) {
+                tally.occurs("notes", kind);
+            }
+        }
+    }
+    for symbols in after.lines().filter_map(|line| line.strip_prefix("    together: ")) {
+        let occurs = TOGETHER.iter().find(|(_, kinds)| kinds_of(symbols) == *kinds);
+        occurs.iter().for_each(|(kind, _)| tally.occurs("notes", kind));
+    }
+}
+
+/// The letters of the symbols, each once.
+fn kinds_of(symbols: &str) -> String {
+    let mut kinds: Vec<char> = symbols.split(' ').filter_map(|symbol| symbol.chars().next()).collect();
+    kinds.dedup();
+    kinds.into_iter().collect()
 }

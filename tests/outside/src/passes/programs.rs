@@ -4,7 +4,7 @@
 //! byte.
 
 use super::noted;
-use crate::child::{Error, Input, Outcome, Output};
+use crate::child::{Error, Input, Outcome};
 use crate::faults;
 use crate::inputs::calls::show_text;
 use crate::inputs::runs::{self, Case, Expected};
@@ -30,16 +30,19 @@ const LIMIT_OF_LONG: Duration = Duration::from_secs(1);
 /// So many bytes of what a child printed or said are shown where it is wrong.
 const MOST_SHOWN: usize = 600;
 
-const KINDS: [&str; 9] = [
+const KINDS: [&str; 12] = [
     "holds",
     "broken",
     "broken late",
     "refused",
     "long",
+    "long, two notes",
     "no input",
     "no output",
+    "no output, two notes",
     "no standard error",
     "in one pipe",
+    "in one pipe, two notes and more",
 ];
 
 /// What the model says of a case: the report, or nothing where there is to be none, and the notes.
@@ -53,7 +56,7 @@ pub fn run(random: &mut Random, tally: &mut Tally) {
     noted::expect(tally);
     let cases = runs::all(random);
     for (case, model, outcome) in run_cases(&cases) {
-        tally.occurs("program", kind(case, &model.report));
+        tally.occurs("program", kind(case, &model));
         if let Expected::Late(_, size) = case.expected {
             assert_eq!(
                 sizes_of_breaks(&model.report),
@@ -65,10 +68,11 @@ pub fn run(random: &mut Random, tally: &mut Tally) {
         if let Err(why) = judge(case, &model, &outcome) {
             tally.differs(|| format!("{PROGRAM}: {why}\n    {}", case.show()));
         }
-        let pipes = (case.call.output, case.call.error) == (Output::Pipe, Error::Pipe);
-        if let (Expected::Report(text) | Expected::Late(text, _), true) = (&case.expected, pipes) {
+        if let Expected::Report(text) | Expected::Late(text, _) = &case.expected {
             compare_with_faults(tally, case, text, &model.report, &outcome);
-            noted::count(tally, &model.notes);
+            if case.call.error == Error::Pipe {
+                noted::count(tally, &model.notes);
+            }
         }
     }
 }
@@ -78,9 +82,14 @@ fn compare_with_faults(tally: &mut Tally, case: &Case, text: &[u8], report: &str
         Input::Pieces(pieces) => pieces.first().map_or(0, Vec::len),
         _ => text.len(),
     };
-    faults::program(tally, text, first_piece, report, &outcome.printed);
+    let error = case.call.error;
+    if error == Error::Pipe {
+        faults::program(tally, text, first_piece, report, &outcome.printed);
+    }
+    // Notes that arrive in one pipe with the report are compared too: only there it shows what was written first.
     if let Some(said) = outcome.said.strip_prefix(case.witness().as_bytes()) {
-        faults::notes::program(tally, text, report, said);
+        let arrived = [outcome.printed.as_slice(), said];
+        faults::notes::program(tally, text, report, |notes| wanted(error, report, notes) != arrived);
     }
 }
 
@@ -121,11 +130,8 @@ impl Case {
         };
         let notes = RIGHT.notes(text, &report);
         if let Expected::Long(_) = self.expected {
-            assert!(
-                !notes.before.is_empty(),
-                "a long check is said to be one: {}",
-                self.show()
-            );
+            let says = String::from_utf8_lossy(&notes.before).contains(" sets to look at");
+            assert!(says, "a long check is said to be one: {}", self.show());
         }
         Model { report, notes }
     }
@@ -146,12 +152,16 @@ impl Case {
     }
 }
 
-fn kind(case: &Case, report: &str) -> &'static str {
+fn kind(case: &Case, Model { report, notes }: &Model) -> &'static str {
+    let two_before = notes.before.split_inclusive(|byte| *byte == b'\n').count() == 2;
     match (&case.expected, case.call.error) {
         (_, Error::Full | Error::Closed) => "no standard error",
+        (_, Error::WithOutput) if two_before && !notes.after.is_empty() => "in one pipe, two notes and more",
         (_, Error::WithOutput) => "in one pipe",
         (Expected::Reason("standard input", _), _) => "no input",
+        (Expected::Reason(..), _) if two_before => "no output, two notes",
         (Expected::Reason(..), _) => "no output",
+        (Expected::Long(_), _) if two_before => "long, two notes",
         (Expected::Long(_), _) => "long",
         (Expected::Late(..), _) => "broken late",
         (Expected::Report(_), _) if report.starts_with("refused") => "refused",
@@ -167,7 +177,7 @@ fn sizes_of_breaks(report: &str) -> Vec<usize> {
 }
 
 /// What has to arrive from standard output and from standard error, where there is a report.
-fn wanted(error: Error, Model { report, notes }: &Model) -> [Vec<u8>; 2] {
+fn wanted(error: Error, report: &str, notes: &Notes) -> [Vec<u8>; 2] {
     let (report, before, after) = (report.as_bytes(), notes.before.as_slice(), notes.after.as_slice());
     match error {
         Error::Pipe => [report.to_vec(), [before, after].concat()],
@@ -191,7 +201,7 @@ fn judge(case: &Case, model: &Model, outcome: &Outcome) -> Result<(), String> {
         let said = show_some(&outcome.said);
         return Err(format!("without {witness:?} on standard error: {said}"));
     };
-    let [printed, notes] = wanted(case.call.error, model);
+    let [printed, notes] = wanted(case.call.error, &model.report, &model.notes);
     let before = model.notes.before.as_slice();
     let (right, wanted) = match &case.expected {
         Expected::Report(_) | Expected::Late(..) => (
