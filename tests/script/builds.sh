@@ -45,7 +45,7 @@ call "$script" text > "$room/out" 2> /dev/full
 expect 'built with standard error full' 0 1 "$report" ''
 fresh
 : > "$folder/target"
-try 'no folder for what is built' 2 0 '' '*the folder target can not be made' "$script" text
+try 'no folder for what is built' 2 0 '' '*nothing can be written to the folder target' "$script" text
 fresh
 mkdir "$folder/target"
 ln -s /dev/full "$folder/target/build.log"

@@ -80,8 +80,10 @@ NI broken 6
 SNI broken 6"
 parts='report: NI is broken*
     wire 6, line 4*: s01 s10
+    together: s01 s10
 report: SNI is broken*
-    wire 6, line 4*: s01 s10'
+    wire 6, line 4*: s01 s10
+    together: s01 s10'
 why_bar='report: line 3, byte 5: *
     s00 | r0
         ^'

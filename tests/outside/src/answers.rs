@@ -19,6 +19,7 @@ pub enum Entry {
 pub type Answer = (u64, &'static str);
 
 /// The entries with their names and every answer that has to be reached, which is every one that the scope gives them.
+/// The refusals stand in the order in which they are tested; the header has to list them so too.
 pub const REQUIRED: [(Entry, &str, &[Answer]); 10] = [
     (
         Entry::ReadText,
@@ -28,14 +29,14 @@ pub const REQUIRED: [(Entry, &str, &[Answer]); 10] = [
             (1, ""),
             (2, ""),
             (3, ""),
+            (9, "too many"),
+            (8, ""),
+            (7, ""),
             (4, ""),
             (5, ""),
             (6, "none open"),
             (6, "nothing inside"),
             (6, "still open"),
-            (7, ""),
-            (8, ""),
-            (9, "too many"),
             (9, "too few"),
             (10, "wires"),
             (10, "table"),

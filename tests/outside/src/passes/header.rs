@@ -15,7 +15,7 @@ use crate::tally::Tally;
 use std::collections::{BTreeMap, BTreeSet};
 use std::fs::read_to_string;
 
-const HEADER: &str = "include/calduvren.h";
+pub const HEADER: &str = "include/calduvren.h";
 const CRATE_FILES: [&str; 3] = [
     "crates/calduvren/src/numbering.rt",
     "crates/calduvren/src/tables.rt",
@@ -29,7 +29,7 @@ const VERSION: usize = 10_000;
 type Declarations = BTreeMap<String, Vec<String>>;
 
 const REFUSED: &str = "CALDUVREN_REFUSED_";
-const REFUSALS: u64 = 22;
+pub const REFUSALS: u64 = 22;
 
 /// In the header's order. The refusals have the scope's numbers.
 const CONSTANTS: [(&str, usize); 40] = [
@@ -76,7 +76,6 @@ const CONSTANTS: [(&str, usize); 40] = [
 ];
 
 pub fn run(_: &mut Random, tally: &mut Tally) {
-    let read = |path: &str| read_to_string(path).unwrap_or_else(|why| panic!("{path} can be read: {why}"));
     let header = without_comments(&read(HEADER));
     let in_header = declared(&header, "calduvren_status ", |argument| vec![spaced(argument)]);
     let sources: String = CRATE_FILES.map(read).concat();
@@ -98,6 +97,10 @@ pub fn run(_: &mut Random, tally: &mut Tally) {
         "header          {functions} functions declared as they are exported, {constants} constants as in the model, \
          {refusals} refusals named once each"
     ));
+}
+
+pub fn read(path: &str) -> String {
+    read_to_string(path).unwrap_or_else(|why| panic!("{path} can be read: {why}"))
 }
 
 /// Rising. A number that has two names stands twice.
@@ -157,9 +160,9 @@ fn in_c(argument: &str) -> Vec<String> {
     }
 }
 
-fn without<'a>(constants: &[(&'a str, usize)], others: &[(&str, usize)]) -> Vec<(&'a str, usize)> {
-    let mut rest = constants.to_vec();
-    rest.retain(|constant| !others.contains(constant));
+pub fn without<T: Clone + PartialEq>(some: &[T], others: &[T]) -> Vec<T> {
+    let mut rest = some.to_vec();
+    rest.retain(|one| !others.contains(one));
     rest
 }
 

@@ -9,6 +9,7 @@ mod large;
 mod noted;
 mod programs;
 mod ranges;
+mod refusals;
 mod reports;
 mod sets;
 mod stack;
@@ -22,7 +23,7 @@ use crate::tally::Tally;
 
 type Pass = fn(&mut Random, &mut Tally);
 
-const PASSES: [Pass; 13] = [
+const PASSES: [Pass; 14] = [
     guards::run,
     examples::run,
     sets::run,
@@ -36,6 +37,7 @@ const PASSES: [Pass; 13] = [
     stack::run,
     header::run,
     programs::run,
+    refusals::run,
 ];
 
 pub fn run_all(seed: u64, tally: &mut Tally) {
