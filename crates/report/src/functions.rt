@@ -17,7 +17,7 @@ const SUM: usize = 2;
 const COPY: usize = 3;
 
 // Says that a table computes none of the three functions, and in which symbols it differs from the one that was probably meant.
-pub fn warn(table: &[u8], shares: usize, masks: usize) {
+pub fn explain(table: &[u8], shares: usize, masks: usize) {
     if MAX_SHARES < shares {
         return;
     }

@@ -54,12 +54,19 @@ fn answer(text: &[u8]) {
     }
 }
 
-// The report on a text that was read. What is known before the search is said before it, since it may take days.
+// The report on a text that was read. Before a search that may take days all is said that is known without it.
 fn answer_read(text: &[u8], table: &[u8], order: usize, shares: usize, masks: usize) {
-    functions::warn(table, shares, masks);
-    sizes::warn(table.len() / RECORD_BYTES, order);
+    let sets = sizes::sets_of_both(table.len() / RECORD_BYTES, order);
+    let is_long = sizes::is_long(sets);
+    if is_long {
+        functions::explain(table, shares, masks);
+        sizes::warn(sets);
+    }
     let mut page = [0u8; MAX_REPORT];
     let length = print_report(text, &mut page);
+    if !is_long && length > 0 {
+        functions::explain(table, shares, masks);
+    }
     breaks::explain(text, table, &page[0..length]);
 }
 

@@ -6,7 +6,7 @@ use sets::CountAnswer;
 // From so many sets on a check is long: some seconds.
 const LONG: u64 = 50_000_000;
 
-// About so many sets are looked at in a second, on one core (bench/run).
+// About so many sets are looked at in a second, on one core: 8 to 20 million were measured.
 const SETS_A_SECOND: u64 = 10_000_000;
 
 const MINUTE: u64 = 60;
@@ -17,12 +17,12 @@ const DAY: u64 = 86_400;
 
 const YEAR: u64 = 31_536_000;
 
-// Says beforehand how long a check may take, where that is long.
-pub fn warn(wires: usize, order: usize) {
-    let sets = sets_of_both(wires, order);
-    if sets < LONG {
-        return;
-    }
+pub fn is_long(sets: u64) -> bool {
+    LONG <= sets
+}
+
+// Says how long a check of so many sets may take.
+pub fn warn(sets: u64) {
     say_number(b"report: up to ", sets);
     say(b" sets to look at, some ");
     say_time(sets / SETS_A_SECOND);
@@ -30,7 +30,7 @@ pub fn warn(wires: usize, order: usize) {
 }
 
 // The sets of 1 wire up to as many as the order, once for NI and once for SNI. No count comes near 64 bits, so nothing wraps.
-fn sets_of_both(wires: usize, order: usize) -> u64 {
+pub fn sets_of_both(wires: usize, order: usize) -> u64 {
     let mut sets = 0;
     for size in 1..=order {
         let count = sets_of_size(wires, size);

@@ -5,7 +5,7 @@ use crate::model::notes::{Notes, Way, RIGHT};
 use crate::model::records::{Record, MAX_SHARES};
 use crate::model::symbols::names;
 
-pub const SUMS: [(&str, Way); 24] = [
+pub const SUMS: [(&str, Way); 25] = [
     (
         "a note compares with another function than it says",
         Way {
@@ -174,12 +174,25 @@ pub const SUMS: [(&str, Way); 24] = [
     (
         "a note on the function after that on length",
         Way {
-            arranged: |[function, length, after]| (RIGHT.arranged)([length, function, after]),
+            arranged: |[function, length, after]| Notes {
+                before: [length, function].concat(),
+                after,
+            },
             ..RIGHT
         },
     ),
     (
-        "a note on the function after the report",
+        "a note on the function always before the report",
+        Way {
+            arranged: |[function, length, after]| Notes {
+                before: [function, length].concat(),
+                after,
+            },
+            ..RIGHT
+        },
+    ),
+    (
+        "a note on the function always after the report",
         Way {
             arranged: |[function, length, after]| Notes {
                 before: length,

@@ -44,6 +44,8 @@ pub fn texts() -> Vec<Vec<u8>> {
         odd_bytes(),
         too_long(),
         broken(),
+        far_down(),
+        high_wires(),
         many_sets(),
     ]
     .concat()
@@ -161,6 +163,28 @@ fn broken() -> Vec<Vec<u8>> {
         .map(|text| text.replace('$', "\n").into_bytes())
         .chain(spread_out)
         .collect()
+}
+
+/// A refusal and a break in a line whose number has one, two, three or four digits.
+fn far_down() -> Vec<Vec<u8>> {
+    let mut texts = Vec::new();
+    for skipped in [6, 7, 14, 95, 96, 97, 98, 254, 300, 996, 997, 1_500] {
+        for outputs in ["a0 b0 | r0\na1\n", "a0 b1 a1\na1\n", "a0\na1\nb0\n"] {
+            texts.push(format!("ORDER = 1\nMASKS = []\n{}{outputs}", "\n".repeat(skipped)).into_bytes());
+        }
+    }
+    texts
+}
+
+/// A break by one wire with so many before it: all others carry a mask, or hold at most one share.
+fn high_wires() -> Vec<Vec<u8>> {
+    let text = |before: usize| {
+        let sums = " a0".repeat(before - 4);
+        format!("ORDER = 1\nMASKS = [r0]\na0 r0{sums}\na0 (a1 a0)\n").into_bytes()
+    };
+    [9, 10, 99, 100, 127, 128, 255, 256, 257, 300, 383, 384, 499, 500, 509]
+        .map(text)
+        .to_vec()
 }
 
 /// The same output lines, with many spaces for each and with others between them that are skipped.

@@ -15,7 +15,7 @@ const REPLACED: &str = "report: ? stands for a byte that is no printing ASCII ch
     byte 13 (carriage return) no line end\n";
 
 pub struct Notes {
-    /// In what the function differs, where it is another one, and that the check is long, where it is.
+    /// That the check is long, where it is, and then also in what the function differs, where it is another one.
     pub before: Vec<u8>,
     pub after: Vec<u8>,
 }
@@ -75,9 +75,15 @@ pub const RIGHT: Way = Way {
     part: |wires, wire| wires[wire],
     together: |wires, set| set.iter().fold(Record::default(), |sum, wire| sum.plus(wires[*wire])),
     names,
-    arranged: |[function, length, after]| Notes {
-        before: [function, length].concat(),
-        after,
+    arranged: |[function, length, after]| match length.is_empty() {
+        true => Notes {
+            before: Vec::new(),
+            after: [function, after].concat(),
+        },
+        false => Notes {
+            before: [function, length].concat(),
+            after,
+        },
     },
 };
 

@@ -86,12 +86,18 @@ pub fn count(tally: &mut Tally, Notes { before, after }: &Notes) {
             tally.occurs("notes", kind);
         }
     }
-    count_sums(tally, &before, &after);
+    let all = format!("{before}{after}");
+    count_sums(tally, &all);
+    // The note on the function may stand before those on breaks.
+    let after: String = after
+        .split_inclusive('\n')
+        .filter(|line| !line.starts_with(OTHER))
+        .collect();
     let parts = |notes: &str| notes.lines().skip(1).map(String::from).collect::<Vec<_>>();
     let sets = after.split_once("report: SNI").map(|(ni, sni)| (parts(ni), parts(sni)));
-    let (function, length) = (before.contains(OTHER), before.contains(" sets to look at"));
+    let (function, length) = (all.contains(OTHER), before.contains(" sets to look at"));
     let others = [
-        (TWO_DIGITS, before.contains(" r9 r10")),
+        (TWO_DIGITS, all.contains(" r9 r10")),
         (FUNCTION_ALONE, function && !length && after.is_empty()),
         (LENGTH_ALONE, length && !function),
         (FUNCTION_AND_LENGTH, function && length),
@@ -105,15 +111,15 @@ pub fn count(tally: &mut Tally, Notes { before, after }: &Notes) {
             sets.is_some_and(|(ni, sni)| !ni.is_empty() && ni != sni),
         ),
         (LONG, after.len() >= 30_000),
-        (NONE, before.is_empty() && after.is_empty()),
+        (NONE, all.is_empty()),
     ];
     for (kind, _) in others.iter().filter(|(_, occurs)| *occurs) {
         tally.occurs("notes", kind);
     }
 }
 
-fn count_sums(tally: &mut Tally, before: &str, after: &str) {
-    let other = before.lines().find_map(|line| line.strip_prefix(OTHER));
+fn count_sums(tally: &mut Tally, notes: &str) {
+    let other = notes.lines().find_map(|line| line.strip_prefix(OTHER));
     if let Some((function, symbols)) = other.and_then(|other| other.split_once(" in ")) {
         for (kind, of, symbol) in DIFFERENCES {
             if of == function && kinds_of(symbols).contains(symbol) {
@@ -121,7 +127,7 @@ fn count_sums(tally: &mut Tally, before: &str, after: &str) {
             }
         }
     }
-    for symbols in after.lines().filter_map(|line| line.strip_prefix("    together: ")) {
+    for symbols in notes.lines().filter_map(|line| line.strip_prefix("    together: ")) {
         let occurs = TOGETHER.iter().find(|(_, kinds)| kinds_of(symbols) == *kinds);
         occurs.iter().for_each(|(kind, _)| tally.occurs("notes", kind));
     }
