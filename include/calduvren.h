@@ -20,6 +20,10 @@
  * that size. A set that is found breaks every order from its size on; a clean range, or a clean size above 1, by itself
  * says nothing of an order.
  *
+ * What holds says is about one gadget whose masks are random, fresh and used nowhere else, and whose operands are shared
+ * at random, independently of each other. It says nothing of gadgets put together, of a whole by its parts, of glitches,
+ * or of the function.
+ *
  * What every function does
  *
  * - It returns a status: 0, which is CALDUVREN_OK, or the number of the refusal. A refusal alters no lent memory; the
@@ -108,7 +112,7 @@ extern "C" {
 #define CALDUVREN_REFUSED_ORDER 15            /* order not 1 to shares - 1 */
 #define CALDUVREN_REFUSED_BUFFER 16           /* the set or buffer lent for the answer is too short */
 #define CALDUVREN_REFUSED_SIZE 17             /* a set of over 7 wires */
-#define CALDUVREN_REFUSED_RANKS 18            /* ranks that no set has, or from above to */
+#define CALDUVREN_REFUSED_RANKS 18            /* a rank that no set has, or bounds beyond the sets or falling */
 #define CALDUVREN_REFUSED_JOBS 19             /* no jobs, over 65,536, or job not below jobs */
 #define CALDUVREN_REFUSED_FUNCTION 20         /* function neither product nor sum nor copy */
 #define CALDUVREN_REFUSED_WIRE_NUMBERS 21     /* wire numbers not strictly rising, or one beyond the table */
@@ -144,7 +148,8 @@ typedef uint64_t calduvren_status;
  * 23, and nothing at 19.
  *
  * Written with status 0: order, shares (of each operand), masks (the mask count: the highest number + 1, or 0) and
- * wires, and the first 24 * wires bytes of table. A table of CALDUVREN_MAX_TABLE_BYTES is always long enough.
+ * wires, and the first 24 * wires bytes of table. A table of CALDUVREN_MAX_TABLE_BYTES is always long enough. The other
+ * functions are then given 24 * wires as its length: the whole buffer would count as 512 wires.
  * Written with any other status: offset, the place in the text.
  *
  * Refusals, that at the lowest offset, and at one offset the first of:
