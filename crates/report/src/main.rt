@@ -3,6 +3,7 @@
 // why, which parts of the text compute the wires of a break.
 ghost use Prim.Native.Nat.{_≤_};
 ghost use lib.ListN.{length};
+ghost use Rattle.report_text.specs.Report.{maxReport};
 use libc::STDOUT_FILENO;
 use limits::MAX_TABLE_BYTES;
 use limits::RECORD_BYTES;
@@ -72,7 +73,7 @@ fn answer_read(text: &[u8], table: &[u8], order: usize, shares: usize, masks: us
 
 // Prints the report and answers its length, or 0 where it could not be printed.
 fn print_report(text: &[u8], page: &mut [u8]) -> usize
-    requires { ⌜ 512 ≤ length (now page) ⌝ }
+    requires { ⌜ maxReport ≤ length (now page) ⌝ }
     ensures { λ r. ⌜ r ≤ length (now (page .exit)) ⌝ }
 {
     let answer = report_text::report(text, page);

@@ -1,6 +1,7 @@
 // The symbols that a sum names.
 ghost use Prim.Native.Nat.{_≤_, _<_};
 ghost use Rattle.record_words.specs.Symbols.{Small};
+ghost use Rattle.report.specs.Symbols.{symbolCount};
 use crate::saying::say_number;
 use limits::MAX_MASKS;
 use limits::MAX_SHARES;
@@ -38,7 +39,7 @@ pub fn names_share_b(sum: Sum) -> bool {
 
 // Whether a sum names one of the symbols of a part of the row.
 fn names_any(sum: Sum, from: usize, to: usize) -> bool
-    requires { ⌜ to ≤ 144 ⌝ }
+    requires { ⌜ to ≤ symbolCount ⌝ }
 {
     for place in from..to {
         if is_in(symbol_at(place), sum) {
@@ -49,7 +50,7 @@ fn names_any(sum: Sum, from: usize, to: usize) -> bool
 }
 
 fn symbol_at(place: usize) -> Symbol
-    requires { ⌜ place < 144 ⌝ }
+    requires { ⌜ place < symbolCount ⌝ }
     ensures { λ r. ⌜ Small r ⌝ }
 {
     if place < SHARES_A {

@@ -1,11 +1,12 @@
 -- `report::symbols::names_any` ends. Assumes nothing.
 use Prim.Native.Nat.{_≤_, _-_}
 use borrow.Author.Needs.{needs}
+use Rattle.report.specs.Symbols.{symbolCount}
 use Rattle.report.proofs.symbols.names_any.Statement.{statement}
 use Rattle.report.proofs.symbols.names_any.Tie as tie
 
 abbrev Inv-loop : tie.InvT-loop
-Inv-loop sum from to place₀ place = to ≤ 144
+Inv-loop sum from to place₀ place = to ≤ symbolCount
 
 abbrev μ-loop : tie.MeasureT-loop
 μ-loop sum from to place₀ place = to - place

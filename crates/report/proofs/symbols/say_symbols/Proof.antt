@@ -1,14 +1,15 @@
 -- `report::symbols::say_symbols` ends. Assumes nothing.
 use Prim.Native.Nat.{_≤_, _-_}
 use borrow.Author.Needs.{needs}
+use Rattle.report.specs.Symbols.{symbolCount}
 use Rattle.report.proofs.symbols.say_symbols.Statement.{statement}
 use Rattle.report.proofs.symbols.say_symbols.Tie as tie
 
 abbrev Inv-loop : tie.InvT-loop
-Inv-loop sum place₀ place = place ≤ 144
+Inv-loop sum place₀ place = place ≤ symbolCount
 
 abbrev μ-loop : tie.MeasureT-loop
-μ-loop sum place₀ place = 144 - place
+μ-loop sum place₀ place = symbolCount - place
 
 loop-holds : tie.Need-loop-holds Inv-loop μ-loop
 loop-holds c = search needs

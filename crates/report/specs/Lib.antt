@@ -1,0 +1,3 @@
+-- The definitions that the contracts of the program `report` cite.
+--     Symbols   how many symbols there are
+pub mod Symbols
