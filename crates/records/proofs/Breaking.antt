@@ -1,8 +1,8 @@
 -- The breaking test on words, as the code makes it: first the masks, then a's shares, then b's.
---     words-masked                              a mask is left where the word of masks is not 0
+--     words-masked, mask-left                   a mask is left where the word of masks is not 0
 --     still-masked, more-of-a, then-of-b        the three answers
 use Prim.Native.Nat.{ℕ, _≤_, _<_, _^_}
-use mathlib.Core.Path.{_≡_, sym, _∙_, ap, ap₂}
+use mathlib.Core.Path.{_≡_, refl, sym, _∙_, ap, ap₂}
 use mathlib.Core.Bool.{Bool, true, false, not, _&&_, _||_}
 use mathlib.Core.List.{List}
 use borrow.Author.Tests.{eq-eqb, ne-eqb, lt-ltb, le-ltb}
@@ -16,6 +16,13 @@ use Rattle.records.proofs.Words.{zero-test}
 pub words-masked : (p m a b : ℕ) → m < 2 ^ 64 → eqb m 0 ≡ not (masked maxMasks (decodeTerms p m a b))
 unfolding masked
 words-masked p m a b h = zero-test 64 m h
+
+pub mask-left : (p m a b : ℕ) → m < 2 ^ 64 → not (eqb m 0) ≡ masked maxMasks (decodeTerms p m a b)
+mask-left p m a b h = ap not (words-masked p m a b h) ∙ twice (masked maxMasks (decodeTerms p m a b))
+  where
+    twice : (b : Bool) → not (not b) ≡ b
+    twice true = refl
+    twice false = refl
 
 module _ (notion : Notion) (s : List Wire) (p m a b : ℕ) (h : m < 2 ^ 64) (e : decodeTerms p m a b ≡ total s) where
   tests : breaks notion maxShares maxMasks s
