@@ -42,9 +42,16 @@ module _ (n m : ℕ) (v : List Wire) where
       there : masked m (total v) ≡ true → (k : ℕ) × (k < m) × ChangesWithMask n m v k
       there e =
           let w = some-where m (total v .mask) e in
-          let r : ℕ → Bool = λ i. false in
-          (w .0, w .1, (zeros, r, apart zeros zeros r (with-mask r (w .0)) .0
-          (λ same. changed (value n m zeros r (total v)) (same ∙ shifted zeros r (w .0) (w .1) ∙ ap (xor (value n m zeros r (total v))) (w .2)))))
+          let r : ℕ → Bool = λ i. false in (
+            w .0,
+            w .1,
+            (
+              zeros,
+              r,
+              apart zeros zeros r (with-mask r (w .0)) .0
+                  (λ same. changed (value n m zeros r (total v)) (same ∙ shifted zeros r (w .0) (w .1) ∙ ap (xor (value n m zeros r (total v))) (w .2))),
+            ),
+          )
 
       back : (k : ℕ) → k < m → ChangesWithMask n m v k → (b : Bool) → total v .mask k ≡ b → b ≡ true
       back k below c true e = refl
