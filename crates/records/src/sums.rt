@@ -207,7 +207,7 @@ pub fn set_breaks(table: &[u8], notion: Notion, set: &[u16]) -> bool
     ensures { λ r. ⌜ r ≡ breaks notion maxShares maxMasks (map (wireAt (now (table .entry))) (now (set .entry))) ⌝ }
 {
     let sum = sum_of_set(table, set);
-    if sum.masks != 0 {
+    if is_masked(sum) {
         return false;
     }
     let allowed = payers(table, notion, set);

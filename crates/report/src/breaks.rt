@@ -53,14 +53,7 @@ fn say_broken(notion: &[u8], counted: &[u8]) {
 }
 
 // Shows the wires whose numbers stand in a line of the report, and what they depend on.
-fn show_break(
-    text: &[u8],
-    table: &[u8],
-    shares: usize,
-    masks: usize,
-    notion: usize,
-    line: &[u8],
-) {
+fn show_break(text: &[u8], table: &[u8], shares: usize, masks: usize, notion: usize, line: &[u8]) {
     let mut set = [0u16; MAX_SIZE];
     let size = wires_of(line, &mut set);
     show_set(text, table, &set[0..size]);
