@@ -1,6 +1,7 @@
 -- Examples, proved by running the definitions: the scope's texts A, B and C, a break that takes two wires, and the refusals on both sides
 -- of their limits.
---     texts, two-wires, three-wires, ranges, verdict-refusals, range-refusals, empty-table     what is told
+--     texts, two-wires, three-wires, ranges, dependences, empty-table     what is told
+--     verdict-refusals, range-refusals, set-refusals     and which refusals
 --     numbers     every answer in numbers
 --     rank-refused, later-refused     what demand 2's clauses turn away
 --     holds-refused, wire-0-refused, broken-refused     what demand 3's clause alone turns away
@@ -10,7 +11,7 @@ use native.Mathlib.Nat.{le-refl}
 use native.Mathlib.Omega.{arith}
 use mathlib.Core.Path.{_≡_, refl}
 use mathlib.Core.Logic.{inl, inr}
-use mathlib.Core.Bool.{xor}
+use mathlib.Core.Bool.{true, false, xor}
 use mathlib.Core.List.{List, [], _∷_, _++_, map}
 use lib.ListN.{take}
 use Rattle.basics.specs.Folds.{upTo}
@@ -27,11 +28,12 @@ use Rattle.sets.specs.Answers.{jobTold}
 use Rattle.table.specs.declared.Refusal.the-variants.{SharesOrMasks, TableLength, RecordOutOfRange}
 use Rattle.table.proofs.Examples.{record8, tableA, tableB, tableC}
 use Rattle.verdict.specs.declared.Refusal.{Refusal}
-use Rattle.verdict.specs.declared.Refusal.the-variants.{Table, NoSuchNotion, OrderOutOfRange, BufferTooShort, SizeTooLarge, RanksOutOfRange}
+use Rattle.verdict.specs.declared.Refusal.the-variants.{Table, NoSuchNotion, OrderOutOfRange, BufferTooShort, SizeTooLarge, RanksOutOfRange, NotASet}
 use Rattle.verdict.specs.declared.RangeAnswer.{RangeAnswer}
 use Rattle.verdict.specs.declared.VerdictAnswer.{VerdictAnswer}
+use Rattle.verdict.specs.declared.DependenceAnswer.{DependenceAnswer}
 use Rattle.search.specs.Search.{searched, isBreaking}
-use Rattle.verdict.specs.Answers.{refusalNumber, verdictTold, rangeTold, verdictOf, rangeCheck}
+use Rattle.verdict.specs.Answers.{refusalNumber, verdictTold, rangeTold, dependenceTold, verdictOf, rangeCheck, setDependence}
 use Rattle.verdict.specs.First.{NotAfter, VerdictFinds, RangeFinds}
 use Rattle.verdict.specs.Guarantee.{Guarantee}
 use Rattle.verdict.proofs.Watching.{all-choose}
@@ -102,6 +104,26 @@ pub range-refusals : (rangeCheck pair 3 1 3 8 1 0 room ≡ turns 14) × (rangeCh
 unfolding isBreaking revolving binom breaks countA masked beyond bit upTo xor
 range-refusals = (refl, refl, refl, refl, refl, refl, refl, refl, refl, refl, refl, refl)
 
+-- text B's wire 6 depends on two shares of each operand and pays for one; text C's outer wire 2 on one of each, for which it pays under NI alone; wires 1
+-- and 2 of the pair on three of a, wire 1 on one with the mask left, and with wire 0 the share cancels; wires 2 and 3, the last one outer; no wire
+pub dependences : (map (λ notion. setDependence tableB 2 1 notion (6 ∷ [])) (1 ∷ 2 ∷ []) ≡ values (2 ∷ 2 ∷ 1 ∷ 0 ∷ []) ∷ values (2 ∷ 2 ∷ 1 ∷ 0 ∷ []) ∷ [])
+    × (map (λ notion. setDependence tableC 2 0 notion (2 ∷ [])) (1 ∷ 2 ∷ []) ≡ values (1 ∷ 1 ∷ 1 ∷ 0 ∷ []) ∷ values (1 ∷ 1 ∷ 0 ∷ 0 ∷ []) ∷ [])
+    × (map (setDependence pair 3 1 1) ((1 ∷ 2 ∷ []) ∷ (1 ∷ []) ∷ (0 ∷ 1 ∷ []) ∷ [])
+    ≡ values (3 ∷ 0 ∷ 2 ∷ 0 ∷ []) ∷ values (1 ∷ 0 ∷ 1 ∷ 1 ∷ []) ∷ values (0 ∷ 0 ∷ 2 ∷ 1 ∷ []) ∷ [])
+    × (map (λ notion. setDependence pair 3 1 notion (2 ∷ 3 ∷ [])) (1 ∷ 2 ∷ []) ≡ values (2 ∷ 0 ∷ 2 ∷ 0 ∷ []) ∷ values (2 ∷ 0 ∷ 1 ∷ 0 ∷ []) ∷ [])
+    × (setDependence pair 3 1 2 [] ≡ values (0 ∷ 0 ∷ 0 ∷ 0 ∷ []))
+unfolding countA masked beyond bit upTo xor
+dependences = (refl, refl, refl, refl, refl)
+
+-- 14, 17 and 21 of a set, on both sides, and which comes first
+pub set-refusals : let eight : List ℕ = 9 ∷ 9 ∷ 9 ∷ 9 ∷ 9 ∷ 9 ∷ 9 ∷ 9 ∷ [] in (map (λ notion. setDependence pair 3 1 notion eight) (0 ∷ 3 ∷ []) ≡ refusal 14 ∷ refusal 14 ∷ [])
+    × (setDependence pair 3 1 1 eight ≡ refusal 17) × (setDependence pair 3 1 1 (0 ∷ 1 ∷ 2 ∷ 3 ∷ 4 ∷ 5 ∷ 6 ∷ []) ≡ refusal 21)
+    × (map (setDependence pair 3 1 1) ((3 ∷ []) ∷ (4 ∷ []) ∷ (1 ∷ 1 ∷ []) ∷ (2 ∷ 1 ∷ []) ∷ [])
+    ≡ values (0 ∷ 0 ∷ 1 ∷ 1 ∷ []) ∷ refusal 21 ∷ refusal 21 ∷ refusal 21 ∷ [])
+    × (setDependence pair 1 65 0 eight ≡ refusal 11) × (setDependence (0 ∷ []) 2 0 0 eight ≡ refusal 12) × (setDependence pair 2 1 0 eight ≡ refusal 13)
+unfolding countA masked beyond bit upTo xor
+set-refusals = (refl, refl, refl, refl, refl, refl, refl)
+
 -- an empty table holds, at every order of 8 shares, and has no set of size 1
 pub empty-table : (verdictOf [] 8 64 2 7 (9 ∷ 9 ∷ 9 ∷ 9 ∷ 9 ∷ 9 ∷ 9 ∷ []) ≡ record { told = values []; held = 9 ∷ 9 ∷ 9 ∷ 9 ∷ 9 ∷ 9 ∷ 9 ∷ [] })
     × (rangeCheck [] 8 64 2 1 0 0 room ≡ gives [] 9 9 9) × (rangeCheck [] 8 64 2 1 0 1 room ≡ turns 18)
@@ -112,13 +134,16 @@ empty-table = (refl, refl, refl)
 
 -- the number of every refusal, and what every answer tells; a buffer longer than the largest set is told whole
 pub numbers : (map refusalNumber (Table SharesOrMasks ∷ Table TableLength ∷ Table RecordOutOfRange ∷ NoSuchNotion ∷ OrderOutOfRange ∷ BufferTooShort
-    ∷ SizeTooLarge ∷ RanksOutOfRange ∷ []) ≡ 11 ∷ 12 ∷ 13 ∷ 14 ∷ 15 ∷ 16 ∷ 17 ∷ 18 ∷ [])
+    ∷ SizeTooLarge ∷ RanksOutOfRange ∷ NotASet ∷ []) ≡ 11 ∷ 12 ∷ 13 ∷ 14 ∷ 15 ∷ 16 ∷ 17 ∷ 18 ∷ 21 ∷ [])
     × ((why : Refusal) (held : List ℕ) → verdictTold (VerdictAnswer.Refused why) held ≡ record { told = refusal (refusalNumber why); held = held })
     × ((held : List ℕ) → verdictTold VerdictAnswer.Holds held ≡ record { told = values []; held = held })
     × ((size : ℕ) (held : List ℕ) → verdictTold (VerdictAnswer.Broken size) held ≡ record { told = values (size ∷ []); held = held })
     × ((why : Refusal) (held : List ℕ) → rangeTold (RangeAnswer.Refused why) held ≡ record { told = refusal (refusalNumber why); held = held })
     × ((held : List ℕ) → rangeTold RangeAnswer.Clean held ≡ record { told = values []; held = held })
     × ((size rank : ℕ) (held : List ℕ) → rangeTold (RangeAnswer.Found size rank) held ≡ record { told = values (size ∷ rank ∷ []); held = held })
+    × ((why : Refusal) → dependenceTold (DependenceAnswer.Refused why) ≡ refusal (refusalNumber why))
+    × ((ofA ofB most : ℕ) → dependenceTold (DependenceAnswer.Depends ofA ofB most true) ≡ values (ofA ∷ ofB ∷ most ∷ 1 ∷ []))
+    × ((ofA ofB most : ℕ) → dependenceTold (DependenceAnswer.Depends ofA ofB most false) ≡ values (ofA ∷ ofB ∷ most ∷ 0 ∷ []))
     × ((from to : ℕ) → jobTold (JobAnswer.Ranks from to) ≡ values (from ∷ to ∷ []))
 numbers = (
   refl,
@@ -128,6 +153,9 @@ numbers = (
   λ why held. refl,
   λ held. refl,
   λ size rank held. refl,
+  λ why. refl,
+  λ ofA ofB most. refl,
+  λ ofA ofB most. refl,
   λ from to. refl,
 )
 
