@@ -315,8 +315,9 @@ calduvren_status calduvren_job(size_t wires, size_t size, uint64_t job, uint64_t
 /*
  * The report on a description text: what was read, its function and both verdicts at its order, in lines that end in
  * byte 10. That of a verdict is as `NI holds`, or as `NI broken 6 by both`: the wires of the first breaking set, and
- * ` by a`, ` by b` or ` by both` for the operands that leak. A text that calduvren_read_text turns down, a table of CALDUVREN_MAX_TABLE_BYTES lent, has a report too, with
- * status 0: one line, as `refused 7 at 31`.
+ * ` by a`, ` by b` or ` by both` for the operands that leak (calduvren_set_dependence has the counts). A text that
+ * calduvren_read_text turns down, a table of CALDUVREN_MAX_TABLE_BYTES lent, has a report too, with status 0: one line,
+ * as `refused 7 at 31`.
  *
  * Written: length, and the report's bytes in the first `length` bytes of buffer. No byte 0 follows them. A buffer of
  * CALDUVREN_MAX_REPORT_BYTES is always long enough.
