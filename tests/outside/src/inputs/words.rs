@@ -38,7 +38,8 @@ const COUNTS: [(usize, &[usize]); 4] = [(1, &[0, 1, 2]), (2, &[0, 1, 2, 3]), (3,
 
 pub fn texts() -> Vec<Vec<u8>> {
     let by_hand = BY_HAND.iter().map(|(lines, _)| text_by_hand(lines));
-    by_hand.chain(by_one_wire()).chain(by_chains()).collect()
+    let made = [by_one_wire(), by_two_lines(), by_chains()].concat();
+    by_hand.chain(made).collect()
 }
 
 pub fn text_by_hand(lines: &str) -> Vec<u8> {
@@ -76,6 +77,20 @@ fn with_counts(order: usize, of_a: usize, of_b: usize) -> Vec<Vec<u8>> {
     lines
         .map(|line| format!("ORDER = {order}\nMASKS = [r0, r1]\n{line}\n{others}").into_bytes())
         .collect()
+}
+
+/// An output that breaks SNI by one operand or by both, and a line that breaks NI by one or by both.
+fn by_two_lines() -> Vec<Vec<u8>> {
+    let mut texts = Vec::new();
+    for order in 1..=4 {
+        for output in ["a0", "b0", "s00"] {
+            for line in ["a0 a1", "b0 b1", "s01 s10"] {
+                let others = "r0\n".repeat(order - 1);
+                texts.push(format!("ORDER = {order}\nMASKS = [r0]\n{output}\n{line}\n{others}").into_bytes());
+            }
+        }
+    }
+    texts
 }
 
 /// Sets of as many wires as the order, whose sum depends on one share more of an operand, or of both. Of the other one
