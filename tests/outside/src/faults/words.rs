@@ -99,37 +99,34 @@ pub fn program(tally: &mut Tally, text: &[u8], report: &str, printed: &[u8]) {
         return;
     };
     for (name, after) in &AFTERS {
-        let wrong = with_breaks(report, |notion, set| {
-            let numbers: String = set.iter().map(|wire| format!(" {wire}")).collect();
+        let wrong = with_breaks(report, |notion, numbers, set| {
             format!("{numbers}{}", after(&reading.wires, set, notion, reading.order))
         });
         tally.fault(name, wrong.as_bytes() != printed);
     }
-    let ni_word = report
+    let of_ni = report
         .lines()
         .find_map(|line| line.strip_prefix("NI broken ")?.split_once(" by "));
-    let of_ni = with_breaks(report, |notion, set| {
-        let numbers: String = set.iter().map(|wire| format!(" {wire}")).collect();
-        let word = ni_word.map_or(operands(&reading.wires, set, notion), |(_, word)| word);
+    let ni_word = with_breaks(report, |notion, numbers, set| {
+        let word = of_ni.map_or(operands(&reading.wires, set, notion), |(_, word)| word);
         format!("{numbers} by {word}")
     });
-    tally.fault(OF_NI, of_ni.as_bytes() != printed);
-    let before = with_breaks(report, |notion, set| {
-        let numbers: String = set.iter().map(|wire| format!(" {wire}")).collect();
-        format!(" by {}{numbers}", operands(&reading.wires, set, notion))
+    tally.fault(OF_NI, ni_word.as_bytes() != printed);
+    let before = with_breaks(report, |notion, numbers, set| {
+        format!("by {} {numbers}", operands(&reading.wires, set, notion))
     });
     tally.fault(BEFORE, before.as_bytes() != printed);
 }
 
-/// The report with something else after `broken`.
-fn with_breaks(report: &str, after: impl Fn(usize, &[u16]) -> String) -> String {
+/// The report with something else after `broken`, from the notion and the wires that are shown.
+fn with_breaks(report: &str, after: impl Fn(usize, &str, &[u16]) -> String) -> String {
     let line = |line: &str| match line.split_once(" broken ") {
         None => format!("{line}\n"),
-        Some((name, rest)) => {
-            let (numbers, _) = rest.split_once(" by ").unwrap_or((rest, ""));
+        Some((name, shown)) => {
+            let (numbers, _) = shown.split_once(" by ").unwrap_or((shown, ""));
             let set: Vec<u16> = numbers.split(' ').filter_map(|wire| wire.parse().ok()).collect();
             let notion = if name == "NI" { NI } else { SNI };
-            format!("{name} broken{}\n", after(notion, &set))
+            format!("{name} broken {}\n", after(notion, numbers, &set))
         }
     };
     report.lines().map(line).collect()
