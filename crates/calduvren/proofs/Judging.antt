@@ -2,23 +2,31 @@
 --     function-yes, function-no, function-refused
 --     verdict-holds, verdict-broken, verdict-refused
 --     range-clean, range-found, range-refused
+--     dependence-gave, dependence-refused
 use Prim.Native.Nat.{ℕ, _<_}
 use native.Mathlib.Omega.{arith}
-use mathlib.Core.Path.{_≡_, refl, sym, _∙_, ap}
-use mathlib.Core.Logic.{inl, inr}
-use mathlib.Core.List.{List, [], _∷_}
+use mathlib.Core.Path.{_≡_, refl, sym, _∙_, ap, subst}
+use mathlib.Core.Logic.{_⊎_, inl, inr}
+use mathlib.Core.Bool.{Bool, true, false}
+use mathlib.Core.List.{List, [], _∷_, map}
+use lib.Dec.{eqb}
+use Rattle.basics.specs.Folds.{oneIf}
 use Rattle.basics.specs.Told.{Lent}
+use Rattle.wires.specs.Dependence.{SetDepends}
+use Rattle.records.specs.Layout.{wireAt}
 use Rattle.table.specs.declared.FunctionAnswer.{FunctionAnswer}
 use Rattle.table.specs.declared.Refusal as table-refusal
 use Rattle.table.specs.Answers as table-answers
 use Rattle.verdict.specs.declared.VerdictAnswer.{VerdictAnswer}
 use Rattle.verdict.specs.declared.RangeAnswer.{RangeAnswer}
+use Rattle.verdict.specs.declared.DependenceAnswer.{DependenceAnswer}
 use Rattle.verdict.specs.declared.Refusal.{Refusal}
-use Rattle.verdict.specs.Answers.{refusalNumber, verdictTold, rangeTold, verdictOf, rangeCheck}
+use Rattle.verdict.specs.Answers.{refusalNumber, verdictTold, rangeTold, dependenceTold, notionOf, verdictOf, rangeCheck, setDependence}
 use Rattle.verdict.specs.Guarantee.{Guarantee}
 use Rattle.verdict.specs.First.{VerdictFinds, RangeFinds}
+use Rattle.verdict.specs.Dependence.{DependenceMeans}
 use Rattle.calduvren.specs.Calls.{got, lentJudged}
-use Rattle.calduvren.specs.Meaning.{Kept, FunctionSays, VerdictSays, VerdictShows, RangeShows}
+use Rattle.calduvren.specs.Meaning.{Kept, FunctionSays, VerdictSays, VerdictShows, RangeShows, DependenceSays}
 use Rattle.calduvren.proofs.Answering.{Numbers, numbers-gave, numbers-refused, judged-refused, kept-0}
 
 -- a refusal's number is not 0, so status 0 is no refusal
@@ -35,6 +43,7 @@ verdict-positive Refusal.OrderOutOfRange = omega arith
 verdict-positive Refusal.BufferTooShort = omega arith
 verdict-positive Refusal.SizeTooLarge = omega arith
 verdict-positive Refusal.RanksOutOfRange = omega arith
+verdict-positive Refusal.NotASet = omega arith
 
 module _ (table : List ℕ) (shares masks function : ℕ) where
   abbrev FunctionPromise : ℕ → ℕ → ℕ → Type 0
@@ -173,3 +182,45 @@ module _ (table : List ℕ) (shares masks notion size from to : ℕ) (buffer hel
             record { either = λ zero. absurd (omega arith); none = λ zero. absurd (omega arith); first = λ zero. absurd (omega arith) },
           ),
         )
+
+module _ (table : List ℕ) (shares masks notion : ℕ) (set : List ℕ) where
+  abbrev DependencePromise : ℕ → ℕ → ℕ → ℕ → ℕ → List ℕ → Type 0
+  DependencePromise status ofA ofB most bit before =
+      Numbers (setDependence table shares masks notion set) (DependenceSays status ofA ofB most bit table shares masks notion set) status
+      (ofA ∷ ofB ∷ most ∷ bit ∷ []) before
+
+  module _ (answer : DependenceAnswer) (told : dependenceTold answer ≡ setDependence table shares masks notion set)
+      (means : DependenceMeans answer table shares masks notion set) (a b k m : ℕ) where
+    pub dependence-gave : (ofA ofB most : ℕ) (left : Bool) (bit : ℕ) → answer ≡ DependenceAnswer.Depends ofA ofB most left → bit ≡ oneIf left
+        → DependencePromise 0 ofA ofB most bit (a ∷ b ∷ k ∷ m ∷ [])
+    dependence-gave ofA ofB most left bit e f =
+        subst (λ (i : ℕ). DependencePromise 0 ofA ofB most i (a ∷ b ∷ k ∷ m ∷ [])) (sym f)
+        (numbers-gave _ _ _ (ofA ∷ ofB ∷ most ∷ oneIf left ∷ []) (ap dependenceTold (sym e) ∙ told) (record {
+          either = λ zero. either left;
+          depends = λ zero. subst (λ (x : Bool). SetDepends (notionOf notion) shares masks (map (wireAt table) set) ofA ofB most x) (back left)
+              (means .depends ofA ofB most left e);
+          breaks-exactly = λ zero. let exactly = means .breaks-exactly ofA ofB most left e in
+              (λ h. let r = exactly .0 h in (ap oneIf (r .0), r .1), λ h. exactly .1 (none left (h .0), h .1));
+        }))
+      where
+        either : (x : Bool) → (oneIf x ≡ 1) ⊎ (oneIf x ≡ 0)
+        either true = inl refl
+        either false = inr refl
+
+        back : (x : Bool) → x ≡ eqb (oneIf x) 1
+        back true = refl
+        back false = refl
+
+        none : (x : Bool) → oneIf x ≡ 0 → x ≡ false
+        none true e = absurd (omega (arith, e))
+        none false e = refl
+
+    pub dependence-refused : (why : Refusal) (status : ℕ) → answer ≡ DependenceAnswer.Refused why → status ≡ refusalNumber why
+        → DependencePromise status a b k m (a ∷ b ∷ k ∷ m ∷ [])
+    dependence-refused why status e s =
+        let positive = verdict-positive why in
+        numbers-refused _ _ _ _ _ (ap dependenceTold (sym e) ∙ told) s (record {
+          either = λ zero. absurd (omega (arith, positive));
+          depends = λ zero. absurd (omega (arith, positive));
+          breaks-exactly = λ zero. absurd (omega (arith, positive));
+        })

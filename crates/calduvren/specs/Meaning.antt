@@ -9,19 +9,22 @@
 --     VerdictSays       demand 3: holds exactly when every set to watch has a choice of shares; when not, the set shown has none
 --     VerdictShows      demand 2: which set is shown, and what the buffer then holds
 --     RangeShows        the same for a range of ranks
+--     DependenceSays    on how many shares a set depends, how many it is allowed, and whether a mask is left; whether it breaks the notion
 --     ReadSays          a text is read exactly when it spells a description within the limits, into just that description's wires
 --     PartSays          the part lies within the text, and is the one that the engine returns
 --     ReportSays        the report stands at the buffer's start; it is never longer than 512 bytes, and a buffer of as many is never refused
 use Prim.Native.Nat.{ℕ, suc, _+_, _*_, _≤_, _<_}
 use mathlib.Core.Path.{_≡_}
 use mathlib.Core.Logic.{_↔_, _⊎_}
-use mathlib.Core.Bool.{false}
-use mathlib.Core.List.{List, []}
+use mathlib.Core.Bool.{true, false}
+use mathlib.Core.List.{List, [], map}
+use lib.Dec.{eqb}
 use lib.ListN.{length, take, drop}
 use Rattle.limits.specs.Limits.{recordBytes}
 use Rattle.basics.specs.Told.{values}
 use Rattle.wires.specs.Function.{AddUpTo}
-use Rattle.records.specs.Layout.{wireCount, wires}
+use Rattle.wires.specs.Dependence.{SetDepends}
+use Rattle.records.specs.Layout.{wireAt, wireCount, wires}
 use Rattle.counts.specs.Counts.{binom}
 use Rattle.revolving.specs.Order.{setAt, rankOf}
 use Rattle.sets.specs.Division.{start}
@@ -84,6 +87,12 @@ pub record RangeShows (status clean found rank : ℕ) (table : List ℕ) (shares
       × ((r : ℕ) → from ≤ r → r < to → isBreaking (notionOf notion) table shares masks (setAt (wireCount table) size r) ≡ false)
   pub first : status ≡ 0 → clean ≡ 0
       → (found ≡ size) × (drop size held ≡ drop size buffer) × FirstInRange table shares masks notion size from to (take size held) rank
+
+pub record DependenceSays (status ofA ofB most masked : ℕ) (table : List ℕ) (shares masks notion : ℕ) (set : List ℕ) : Type 0 where
+  pub either : YesOrNo status masked
+  pub depends : status ≡ 0 → SetDepends (notionOf notion) shares masks (map (wireAt table) set) ofA ofB most (eqb masked 1)
+  pub breaks-exactly : status ≡ 0
+      → (isBreaking (notionOf notion) table shares masks set ≡ true) ↔ ((masked ≡ 0) × ((most < ofA) ⊎ (most < ofB)))
 
 -- ---- texts
 

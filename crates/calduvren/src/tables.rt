@@ -1,11 +1,13 @@
 // The operations on a wire table.
 ghost use mathlib.Core.Path.{_≡_};
 ghost use mathlib.Core.List.{[], _∷_};
+ghost use Rattle.basics.specs.Folds.{oneIf};
 ghost use Rattle.table.specs.Answers.{functionCheck};
-ghost use Rattle.verdict.specs.Answers.{verdictOf, rangeCheck};
+ghost use Rattle.verdict.specs.Answers.{verdictOf, rangeCheck, setDependence};
 ghost use Rattle.calduvren.specs.Calls.{got, answered, lentJudged};
-ghost use Rattle.calduvren.specs.Meaning.{Kept, FunctionSays, VerdictSays, VerdictShows, RangeShows};
+ghost use Rattle.calduvren.specs.Meaning.{Kept, FunctionSays, VerdictSays, VerdictShows, RangeShows, DependenceSays};
 use table::FunctionAnswer;
+use verdict::DependenceAnswer;
 use verdict::RangeAnswer;
 use verdict::VerdictAnswer;
 
@@ -104,4 +106,48 @@ pub extern "C" fn calduvren_range_check(
             0
         }
     }
+}
+
+// On how many shares of a and of b a set of wires depends, how many the notion allows it, and whether a mask is left.
+#[no_mangle]
+pub extern "C" fn calduvren_set_dependence(
+    table: &[u8],
+    shares: usize,
+    masks: usize,
+    notion: usize,
+    set: &[u16],
+    of_a: &mut usize,
+    of_b: &mut usize,
+    allowed: &mut usize,
+    masked: &mut u64,
+) -> u64
+    ensures { λ r. ⌜ got r (now («of_a» .exit) ∷ now («of_b» .exit) ∷ now (allowed .exit) ∷ now (masked .exit) ∷ []) [] ≡ answered (setDependence (now (table .entry)) shares masks notion (now (set .entry))) (now («of_a» .entry) ∷ now («of_b» .entry) ∷ now (allowed .entry) ∷ now (masked .entry) ∷ []) [] ⌝ }
+    ensures { λ r. ⌜ Kept r (now («of_a» .exit) ∷ now («of_b» .exit) ∷ now (allowed .exit) ∷ now (masked .exit) ∷ []) (now («of_a» .entry) ∷ now («of_b» .entry) ∷ now (allowed .entry) ∷ now (masked .entry) ∷ []) [] [] ⌝ }
+    ensures { λ r. ⌜ DependenceSays r (now («of_a» .exit)) (now («of_b» .exit)) (now (allowed .exit)) (now (masked .exit)) (now (table .entry)) shares masks notion (now (set .entry)) ⌝ }
+{
+    let answer = verdict::set_dependence(table, shares, masks, notion, set);
+    match answer {
+        DependenceAnswer::Refused(why) => why.number(),
+        DependenceAnswer::Depends {
+            of_a: a,
+            of_b: b,
+            allowed: most,
+            masked: left,
+        } => {
+            *of_a = a;
+            *of_b = b;
+            *allowed = most;
+            *masked = one_if(left);
+            0
+        }
+    }
+}
+
+fn one_if(bit: bool) -> u64
+    ensures { λ r. ⌜ r ≡ oneIf bit ⌝ }
+{
+    if bit {
+        return 1;
+    }
+    0
 }

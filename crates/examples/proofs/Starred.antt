@@ -35,14 +35,14 @@ all-append [] l p q = q
 all-append (c ∷ k) l p q = (p .0, all-append k l (p .1) q)
 
 -- all but the last three are computed by running the definitions
-computed : AllHold (take 16 starred)
+computed : AllHold (take 18 starred)
 unfolding orderLine masksLine namesFrom run bit encode upTo xor beyond computes breaks countA masked searched isBreaking revolving decimal functionLine notionLine checked report binom
-computed = (refl, (refl, (refl, (refl, (refl, (refl, (refl, (refl, (refl, (refl, (refl, (refl, (refl, (refl, (refl, (refl, tt))))))))))))))))
+computed = (refl, (refl, (refl, (refl, (refl, (refl, (refl, (refl, (refl, (refl, (refl, (refl, (refl, (refl, (refl, (refl, (refl, (refl, tt))))))))))))))))))
 
 fours : binom 512 4 ≡ 2829877120
 fours = binom-row 512 4 (omega arith)
 
-large : AllHold (drop 16 starred)
+large : AllHold (drop 18 starred)
 large = (
   ap (λ (all : ℕ). values (all ∷ [])) fours,
   (
@@ -55,7 +55,7 @@ large = (
 )
 
 pub all-hold : AllHold starred
-all-hold = all-append (take 16 starred) (drop 16 starred) computed large
+all-hold = all-append (take 18 starred) (drop 18 starred) computed large
 
 pub also-in-general : AlsoInGeneral
 unfolding isBreaking

@@ -4,6 +4,7 @@
 --     outers, counted    the numbers of the outer wires of a text that was read, and how many wires it has
 --     wrapped            where a job would start whose product wraps at 32 bits
 --     written            the set that was written
+--     depended           on how many shares a set of a text's wires depends
 --     emptyChecked       the range check of the empty set, in a text's table
 --     Case, Holds, AllHold     a line of the table, that it is so, and that every line of a table is
 --     is, prints         a line; one of a report
@@ -26,7 +27,7 @@ use Rattle.wires.specs.declared.Notion.{Notion}
 use Rattle.sets.specs.Answers.{setCount, setFromRank, rankFromSet, jobRanks}
 use Rattle.sets.specs.Visits.{SetTells}
 use Rattle.search.specs.Search.{isBreaking}
-use Rattle.verdict.specs.Answers.{rangeCheck}
+use Rattle.verdict.specs.Answers.{rangeCheck, setDependence}
 use Rattle.reader.specs.Answers.{ReadTold, gives, refused, readText}
 use Rattle.report_text.specs.Report.{emptyTable, emptySet, maxReport, reportText}
 
@@ -51,6 +52,8 @@ pub data Asked : Type 0 where
   -- the set at a rank, and the rank of a set
   setAt : (wires size rank : ℕ) → Asked
   rankOf : (wires : ℕ) (set : List ℕ) → Asked
+  -- on how many shares of a and of b a set of a text's wires depends, how many the notion allows it, and whether a mask is left
+  dependsOn : (text : List ℕ) (notion : ℕ) (set : List ℕ) → Asked
   -- whether the empty set, the only one of size 0, breaks a notion, in the table of a text
   emptyBreaks : (text : List ℕ) (notion : ℕ) → Asked
 
@@ -84,6 +87,10 @@ emptyChecked (gives order shares masks wires) table notion =
     rangeCheck (take (recordBytes * wires) table) shares masks notion 0 0 1 emptySet .told
 emptyChecked (refused number offset) table notion = refusal number
 
+abbrev depended : ReadTold → List ℕ → ℕ → List ℕ → Told
+depended (gives order shares masks wires) table notion set = setDependence (take (recordBytes * wires) table) shares masks notion set
+depended (refused number offset) table notion set = refusal number
+
 -- what the promises of the entries tell
 abbrev pub asked : Asked → Told
 asked (report text) = printed (reportText text page .told) (reportText text page .held)
@@ -94,6 +101,7 @@ asked (ranksOf wires size job jobs) = jobRanks wires size job jobs
 asked (wrappedStart wires size job jobs) = values (wrapped (binom wires size) job jobs ∷ [])
 asked (setAt wires size rank) = written size (setFromRank wires size rank emptySet .told) (setFromRank wires size rank emptySet .held)
 asked (rankOf wires set) = rankFromSet wires set
+asked (dependsOn text notion set) = depended (readText text emptyTable .told) (readText text emptyTable .held) notion set
 asked (emptyBreaks text notion) = emptyChecked (readText text emptyTable .told) (readText text emptyTable .held) notion
 
 -- ---- the table
@@ -134,10 +142,12 @@ starred =
     -- text A's whole report; its wires 2 and 8 are outer
     prints textA "order 1 shares 2 masks 1 wires 9\nfunction product\nNI holds\nSNI holds\n"
     ∷ is (outerWires (bytes textA)) (values (2 ∷ 8 ∷ []))
-    -- B: NI broken 6, SNI broken 6, product
-    ∷ prints textB "order 1 shares 2 masks 1 wires 9\nfunction product\nNI broken 6\nSNI broken 6\n"
-    -- C: sum, NI holds, SNI broken 2
-    ∷ prints textC "order 1 shares 2 masks 0 wires 6\nfunction sum\nNI holds\nSNI broken 2\n"
+    -- B: NI broken 6, SNI broken 6, product; both lines end in ` by both`, since wire 6 depends on two shares of each operand and pays for one
+    ∷ prints textB "order 1 shares 2 masks 1 wires 9\nfunction product\nNI broken 6 by both\nSNI broken 6 by both\n"
+    ∷ is (dependsOn (bytes textB) 1 (6 ∷ [])) (values (2 ∷ 2 ∷ 1 ∷ 0 ∷ []))
+    -- C: sum, NI holds, SNI broken 2; wire 2 is outer and pays for none
+    ∷ prints textC "order 1 shares 2 masks 0 wires 6\nfunction sum\nNI holds\nSNI broken 2 by both\n"
+    ∷ is (dependsOn (bytes textC) 2 (2 ∷ [])) (values (1 ∷ 1 ∷ 0 ∷ 0 ∷ []))
     -- the empty text: 2 at 0; `()` on an output line: 6 at the second byte
     ∷ prints "" "refused 2 at 0\n"
     ∷ prints "ORDER = 1\nMASKS = []\n()\na1\n" "refused 6 at 22\n"
@@ -152,10 +162,10 @@ starred =
     -- the empty set breaks nothing
     ∷ is (emptyBreaks (bytes textB) 1) (values [])
     ∷ is (emptyBreaks (bytes textB) 2) (values [])
-    -- and, beyond the scope's own, a break of two wires at order 2, and a function that is none of the three
+    -- and, beyond the scope's own, a break of two wires at order 2, by a alone, and a function that is none of the three, with a break by b alone
     ∷ prints "ORDER = 2\nMASKS = [r0, r1]\na0 r0\na1 r1\n(a2 r0) r1\n"
-    "order 2 shares 3 masks 2 wires 9\nfunction copy\nNI holds\nSNI broken 2 7\n"
-    ∷ prints "ORDER = 1\nMASKS = []\nb0\nb1\n" "order 1 shares 2 masks 0 wires 4\nfunction other\nNI holds\nSNI broken 1\n"
+    "order 2 shares 3 masks 2 wires 9\nfunction copy\nNI holds\nSNI broken 2 7 by a\n"
+    ∷ prints "ORDER = 1\nMASKS = []\nb0\nb1\n" "order 1 shares 2 masks 0 wires 4\nfunction other\nNI holds\nSNI broken 1 by b\n"
     -- 512 wires, size 4: 2,829,877,120 sets; job 2 of 16 starts at 353,734,640, where a 32-bit product would say 85,299,184
     ∷ is (setsOf 512 4) (values (2829877120 ∷ []))
     ∷ is (ranksOf 512 4 2 16) (values (353734640 ∷ 530601960 ∷ []))

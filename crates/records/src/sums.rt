@@ -6,7 +6,7 @@ ghost use mathlib.Core.List.{map};
 ghost use Prim.Native.Nat.{ℕ, _≤_, _<_, _+_, _*_, _^_};
 ghost use Rattle.limits.specs.Limits.{maxShares, maxMasks};
 ghost use Rattle.basics.specs.Folds.{some, upTo};
-ghost use Rattle.wires.specs.Wires.{none, plus, total, SumOfValues, countA, countB, allowed, breaks, dependsA, dependsB};
+ghost use Rattle.wires.specs.Wires.{none, plus, total, SumOfValues, countA, countB, masked, allowed, breaks, dependsA, dependsB};
 ghost use Rattle.wires.specs.Function.{outers};
 ghost use Rattle.records.specs.Words.{bit};
 ghost use Rattle.records.specs.Layout.{wireAt, wireCount, wires, inside, termsOf, noSum, plusSum};
@@ -166,6 +166,13 @@ pub fn dependence(sum: Sum) -> ShareCounts
     }
 }
 
+// Whether a mask is left in a sum.
+pub fn is_masked(sum: Sum) -> bool
+    ensures { λ r. ⌜ r ≡ masked maxMasks (termsOf sum) ⌝ }
+{
+    sum.masks != 0
+}
+
 // How many inner wires a set has.
 fn inner_count(table: &[u8], set: &[u16]) -> usize
     requires { ⌜ inside (now table) (now set) ≡ true ⌝ }
@@ -183,7 +190,7 @@ fn inner_count(table: &[u8], set: &[u16]) -> usize
 }
 
 // How many wires of a set pay for a share: all of them under NI, the inner ones under SNI.
-fn payers(table: &[u8], notion: Notion, set: &[u16]) -> usize
+pub fn payers(table: &[u8], notion: Notion, set: &[u16]) -> usize
     requires { ⌜ inside (now table) (now set) ≡ true ⌝ }
     ensures { λ r. ⌜ r ≡ allowed notion (map (wireAt (now (table .entry))) (now (set .entry))) ⌝ }
 {
@@ -200,7 +207,7 @@ pub fn set_breaks(table: &[u8], notion: Notion, set: &[u16]) -> bool
     ensures { λ r. ⌜ r ≡ breaks notion maxShares maxMasks (map (wireAt (now (table .entry))) (now (set .entry))) ⌝ }
 {
     let sum = sum_of_set(table, set);
-    if sum.masks != 0 {
+    if is_masked(sum) {
         return false;
     }
     let allowed = payers(table, notion, set);

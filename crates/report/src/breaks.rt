@@ -1,4 +1,4 @@
-// The wires of a break, each with the part of the text that computes it.
+// The wires of a break, each with the part of the text that computes it, and on how many shares of each operand they depend.
 ghost use Prim.Native.Nat.{_≤_, _<_};
 ghost use lib.ListN.{length};
 use crate::lines;
@@ -16,6 +16,7 @@ use records::sums::wire_record;
 use tokens::bytes::digit_value;
 use tokens::bytes::is_digit;
 use tokens::bytes::stands;
+use verdict::DependenceAnswer;
 
 // No wire: its numbers have 16 bits.
 const NO_WIRE: usize = 65536;
@@ -27,17 +28,17 @@ struct Numbers {
 }
 
 // Goes by the report: its lines are the order, the function, NI and SNI, and a line that tells a break has the set's wires.
-pub fn explain(text: &[u8], table: &[u8], report: &[u8]) {
+pub fn explain(text: &[u8], table: &[u8], shares: usize, masks: usize, report: &[u8]) {
     let function = lines::next(report, 0);
     let ni = lines::next(report, function);
     let sni = lines::next(report, ni);
     if stands(report, ni, b"NI broken") {
         say_broken(b"NI", b"wires");
-        show_wires(text, table, &report[ni..sni]);
+        show_break(text, table, shares, masks, 1, &report[ni..sni]);
     }
     if stands(report, sni, b"SNI broken") {
         say_broken(b"SNI", b"inner wires");
-        show_wires(text, table, &report[sni..]);
+        show_break(text, table, shares, masks, 2, &report[sni..]);
     }
 }
 
@@ -51,11 +52,31 @@ fn say_broken(notion: &[u8], counted: &[u8]) {
     say(b"\n");
 }
 
-// Shows the wires whose numbers stand in a line of the report.
-fn show_wires(text: &[u8], table: &[u8], line: &[u8]) {
+// Shows the wires whose numbers stand in a line of the report, and what they depend on.
+fn show_break(text: &[u8], table: &[u8], shares: usize, masks: usize, notion: usize, line: &[u8]) {
     let mut set = [0u16; MAX_SIZE];
     let size = wires_of(line, &mut set);
     show_set(text, table, &set[0..size]);
+    say_dependence(table, shares, masks, notion, &set[0..size]);
+}
+
+fn say_dependence(table: &[u8], shares: usize, masks: usize, notion: usize, set: &[u16]) {
+    let answer = verdict::set_dependence(table, shares, masks, notion, set);
+    match answer {
+        DependenceAnswer::Depends {
+            of_a,
+            of_b,
+            allowed,
+            masked,
+        } => {
+            say_number(b"    depends on ", of_a as u64);
+            say_number(b" of a's shares and ", of_b as u64);
+            say_number(b" of b's, ", allowed as u64);
+            say(b" of each allowed\n");
+        }
+        // a set of the report is one of the table
+        DependenceAnswer::Refused(why) => {}
+    }
 }
 
 // Shows each wire of a set, and what their sum names.

@@ -68,7 +68,7 @@ fn answer_read(text: &[u8], table: &[u8], order: usize, shares: usize, masks: us
     if !is_long && length > 0 {
         functions::explain(table, shares, masks);
     }
-    breaks::explain(text, table, &page[0..length]);
+    breaks::explain(text, table, shares, masks, &page[0..length]);
 }
 
 // Prints the report and answers its length, or 0 where it could not be printed.

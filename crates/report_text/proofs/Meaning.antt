@@ -6,7 +6,7 @@
 --     function-told, yes-exactly           what the function check tells of a table that passes the tests: yes exactly where the outer wires add up
 --     product-sum, product-copy, sum-copy  no two of the three functions are what the outer wires add up to
 --     named                                which function is named, by the three answers
---     pick-size                            a part of a list is shorter, or all of it
+--     operands-named                       which operand is named, by the two tests
 --     after-part                           what does not come after a part of a set does not come after the set
 --     not-after                            whether a set comes after another is decided by their sizes and ranks
 --     shown-first                          the first breaking set comes after no set without a choice
@@ -18,36 +18,38 @@ use Prim.Native.Nat.{ℕ, suc, _+_, _*_, _≤_, _<_}
 use native.Mathlib.Decide.{decLt}
 use native.Mathlib.Omega.{arith}
 use mathlib.Core.Path.{_≡_, refl, sym, _∙_, ap, ap₂, subst}
-use mathlib.Core.Logic.{_↔_, _⊎_, inl, inr, ⊎-elim}
+use mathlib.Core.Logic.{_↔_, Iff·trans, _⊎_, inl, inr, ⊎-elim}
 use mathlib.Core.Bool.{Bool, true, false, cond, not, _&&_, xor, true≢false, false≢true}
 use mathlib.Core.List.{List, [], _∷_, _++_, map}
 use lib.Dec.{ltb, leb, eqb}
 use lib.ListN.{length, length-replicate, take, drop, getD}
 use lib.Seq.{take-at, take-append-seam}
-use borrow.Author.Tests.{le-leb, ltb-true, ltb-false, eq-eqb}
+use borrow.Author.Tests.{le-leb, lt-ltb, ltb-true, ltb-false, eq-eqb}
 use Rattle.limits.specs.Limits.{maxWires, recordBytes, maxTableBytes}
 use Rattle.basics.specs.Folds.{keep, oneIf}
 use Rattle.basics.specs.Quoted.{bytes}
-use Rattle.basics.specs.Told.{Lent, values, refusal}
+use Rattle.basics.specs.Told.{Told, Lent, values, refusal}
 use Rattle.basics.proofs.Tests.{xor-false, false-xor, xor-self}
 use Rattle.basics.proofs.Folds.{fold-pick}
-use Rattle.basics.proofs.Conditions.{values-refusal}
+use Rattle.basics.proofs.Conditions.{values-refusal, less}
 use Rattle.wires.specs.Wires.{Wire, Input, breaks}
 use Rattle.wires.specs.Function.{operand, functionOf, AddUpTo, computes}
 use Rattle.wires.proofs.Function.{computes-exactly}
-use Rattle.watcher.proofs.Bits.{pick, pick-map}
+use Rattle.watcher.proofs.Bits.{pick, pick-size, pick-map}
 use Rattle.watcher.proofs.Choice.{choice}
 use Rattle.records.specs.Layout.{wireAt, wireCount, wires}
 use Rattle.revolving.specs.Order.{rankOf}
 use Rattle.table.specs.Answers.{tableCheck, functionCheck}
 use Rattle.table.proofs.Conditions.{accepted-exactly, tested-answer}
 use Rattle.search.specs.Search.{searched, isBreaking}
-use Rattle.verdict.specs.Answers.{notionOf, written, firstShown, verdictOf}
+use Rattle.verdict.specs.Answers.{notionOf, written, firstShown, verdictOf, setDependence}
 use Rattle.verdict.specs.Guarantee.{Watched, HasChoice}
 use Rattle.verdict.specs.First.{NotAfter, FirstBreaking}
 use Rattle.verdict.proofs.Watching.{pick-watched, all-choose, shown-none}
 use Rattle.verdict.proofs.First.{first-is}
 use Rattle.verdict.specs.Jobs.{Ordered}
+use Rattle.verdict.specs.Dependence.{LeaksA, LeaksB, Leaking}
+use Rattle.verdict.proofs.Dependence.{first-leaks}
 use Rattle.verdict.proofs.Conditions.{verdict-ordered, verdict-answered}
 use Rattle.description.specs.declared.Listed.{Listed}
 use Rattle.description.specs.declared.Refusal.{Refusal}
@@ -61,18 +63,18 @@ use Rattle.reader.specs.Answers.{ReadTold, ReadLent, refused, lentReading, read
 use Rattle.reader.proofs.Telling.{too-large, large-enough}
 use Rattle.reader.specs.Reads.{Readable}
 use Rattle.pages.specs.Page.{wireNumbers}
-use Rattle.report_text.specs.Report.{orderLine, saysYes, functionLine, notionName, verdictSaid, emptySet, notionLine, checked}
+use Rattle.report_text.specs.Report.{orderLine, saysYes, functionLine, operandsNamed, operands, notionName, verdictSaid, emptySet, notionLine, checked}
 use Rattle.report_text.specs.Report.{refusedLine, emptyTable, reported, readReported, report}
-use Rattle.report_text.specs.Meaning.{tableOf, sharesOf, masksOf, Computes, NamesFunction, SaysNotion, ReportSays, Refuses}
+use Rattle.report_text.specs.Meaning.{tableOf, sharesOf, masksOf, Computes, NamesFunction, NamesOperands, SaysNotion, ReportSays, Refuses}
 
 -- ---- lines
 
 apart : {l m : List ℕ} (at : ℕ) → l ≡ m → eqb (getD l at 0) (getD m at 0) ≡ false → ⊥
 apart {l} {m} at e f = true≢false (sym (eq-eqb (getD l at 0) (getD m at 0) (ap (λ (k : List ℕ). getD k at 0) e)) ∙ f)
 
-holds-broken : (name more : List ℕ) → name ++ (bytes " broken" ++ more) ++ bytes "\n" ≡ name ++ bytes " holds" ++ bytes "\n" → ⊥
-holds-broken [] more e = apart 1 e refl
-holds-broken (c ∷ name) more e = holds-broken name more (ap (drop 1) e)
+holds-broken : (name wires word : List ℕ) → name ++ (bytes " broken" ++ wires ++ word) ++ bytes "\n" ≡ name ++ bytes " holds" ++ bytes "\n" → ⊥
+holds-broken [] wires word e = apart 1 e refl
+holds-broken (c ∷ name) wires word e = holds-broken name wires word (ap (drop 1) e)
 
 -- ---- what reading comes to
 
@@ -177,18 +179,25 @@ named d false false false product sum copy = record {
 
 -- ---- the set shown
 
-pick-size : (l : List Bool) (s : List ℕ) → (length (pick l s) < length s) ⊎ (pick l s ≡ s)
-pick-size [] [] = inr refl
-pick-size [] (x ∷ s) = inl (omega arith)
-pick-size (b ∷ l) [] = inr refl
-pick-size (b ∷ l) (x ∷ s) = go b (pick-size l s)
-  where
-    go : (b : Bool) → (length (pick l s) < length s) ⊎ (pick l s ≡ s)
-        → (length (cond b (x ∷ pick l s) (pick l s)) < suc (length s)) ⊎ (cond b (x ∷ pick l s) (pick l s) ≡ x ∷ s)
-    go true (inl less) = inl (omega (arith, less))
-    go true (inr e) = inr (ap {B = List ℕ} (λ v. x ∷ v) e)
-    go false (inl less) = inl (omega (arith, less))
-    go false (inr e) = inl (omega (arith, ap length e))
+-- the three words differ in the byte after the second space, or in the one after that
+operands-named : (d : Description) (notion : ℕ) (set : List ℕ) (a b : Bool) → (a ≡ true) ↔ LeaksA (tableOf d) (sharesOf d) (masksOf d) notion set
+    → (b ≡ true) ↔ LeaksB (tableOf d) (sharesOf d) (masksOf d) notion set → (a ≡ true) ⊎ (b ≡ true) → NamesOperands d notion set (operandsNamed a b)
+operands-named d notion set true true leaks-a leaks-b some = record {
+  names-a = (λ e. leaks-a .0 refl, λ h. inr refl);
+  names-b = (λ e. leaks-b .0 refl, λ h. inr refl);
+  stands = inr (inr refl);
+}
+operands-named d notion set true false leaks-a leaks-b some = record {
+  names-a = (λ e. leaks-a .0 refl, λ h. inl refl);
+  names-b = (⊎-elim (λ e. absurd (apart 4 e refl)) (λ e. absurd (apart 4 e refl)), λ h. absurd (false≢true (leaks-b .1 h)));
+  stands = inl refl;
+}
+operands-named d notion set false true leaks-a leaks-b some = record {
+  names-a = (⊎-elim (λ e. absurd (apart 4 e refl)) (λ e. absurd (apart 5 e refl)), λ h. absurd (false≢true (leaks-a .1 h)));
+  names-b = (λ e. leaks-b .0 refl, λ h. inl refl);
+  stands = inr (inl refl);
+}
+operands-named d notion set false false leaks-a leaks-b some = absurd (⊎-elim false≢true false≢true some)
 
 after-part : (n : ℕ) (s u : List ℕ) (l : List Bool) → NotAfter n s (pick l u) → NotAfter n s u
 after-part n s u l = go (pick-size l u)
@@ -277,35 +286,50 @@ module _ (text : List ℕ) (d : Description) (spells : Spells text d) (limits : 
     says-notion : SaysNotion d notion (notionLine (tableOf d) (sharesOf d) (masksOf d) notion (d .order))
     unfolding notionLine
     says-notion =
-        subst (λ (lent : Lent). SaysNotion d notion (notionName notion ++ verdictSaid lent ++ bytes "\n"))
+        subst (λ (lent : Lent). SaysNotion d notion (notionName notion ++ verdictSaid depends lent ++ bytes "\n"))
         (sym (verdict-answered (tableOf d) (sharesOf d) (masksOf d) notion (d .order) emptySet ordered))
         (by-sets found refl)
       where
         found : List (List ℕ)
         found = keep (isBreaking (notionOf notion) (tableOf d) (sharesOf d) (masksOf d)) (searched (wireCount (tableOf d)) (d .order))
 
+        depends : List ℕ → Told
+        depends = setDependence (tableOf d) (sharesOf d) (masksOf d) notion
+
+        -- the word that stands after a set that leaks
+        word-says : (set : List ℕ) → Leaking (tableOf d) (sharesOf d) (masksOf d) notion set → NamesOperands d notion set (operands (depends set))
+        word-says set l =
+            subst (λ (t : Told). NamesOperands d notion set (operands t)) (sym (l .told))
+            (operands-named d notion set (ltb (l .most) (l .ofA)) (ltb (l .most) (l .ofB)) (Iff·trans (less (l .most) (l .ofA)) (l .by-a))
+            (Iff·trans (less (l .most) (l .ofB)) (l .by-b))
+            (⊎-elim (λ h. inl (lt-ltb (l .most) (l .ofA) h)) (λ h. inr (lt-ltb (l .most) (l .ofB) h)) (l .one)))
+
         by-sets : (sets : List (List ℕ)) → found ≡ sets
-            → SaysNotion d notion (notionName notion ++ verdictSaid (firstShown sets emptySet) ++ bytes "\n")
+            → SaysNotion d notion (notionName notion ++ verdictSaid depends (firstShown sets emptySet) ++ bytes "\n")
         by-sets [] e = record {
           holds = (λ same. all-choose (tableOf d) (sharesOf d) (masksOf d) notion (d .order) e, λ all. refl);
           broken = λ other. absurd (other refl);
         }
         by-sets (set ∷ later) e =
             let none = shown-none (tableOf d) (sharesOf d) (masksOf d) notion (d .order) set later e in
+            let first = first-is (tableOf d) (sharesOf d) (masksOf d) notion (d .order) set later e in
+            let held = take (length set) (written set emptySet) in
             record {
               holds = (
-                λ same. absurd (holds-broken (notionName notion) (wireNumbers (take (length set) (written set emptySet))) same),
+                λ same. absurd (holds-broken (notionName notion) (wireNumbers held) (operands (depends held)) same),
                 λ all. absurd (none .2 (all set (none .1))),
               );
               broken = λ other. record {
                 set = set;
-                shown = ap (λ (l : List ℕ). notionName notion ++ (bytes " broken" ++ wireNumbers l) ++ bytes "\n")
+                word = operands (depends set);
+                shown = ap (λ (l : List ℕ). notionName notion ++ (bytes " broken" ++ wireNumbers l ++ operands (depends l)) ++ bytes "\n")
                     (take-append-seam set (drop (length set) emptySet));
+                operands = word-says set
+                    (first-leaks (tableOf d) (sharesOf d) (masksOf d) notion (d .order) sound (ordered .known) (ordered .high) set first);
                 some = none .0;
                 watched = none .1;
                 no-choice = none .2;
-                first = shown-first (tableOf d) (sharesOf d) (masksOf d) notion (d .order) set
-                    (first-is (tableOf d) (sharesOf d) (masksOf d) notion (d .order) set later e);
+                first = shown-first (tableOf d) (sharesOf d) (masksOf d) notion (d .order) set first;
               };
             }
 

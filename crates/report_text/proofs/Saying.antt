@@ -1,6 +1,7 @@
 -- The lines of the report, by what the checks told.
 --     Named, wrote-product, wrote-sum, wrote-last           the function's name, by what the function check says to each
 --     wrote-ni, wrote-sni                                   the notion's name
+--     wrote-operands                                        the operands that are named
 --     yes-said, no-said, none-said                          what the function check's answer says
 use Prim.Native.Nat.{ℕ}
 use mathlib.Core.Path.{_≡_, sym, _∙_, ap, subst}
@@ -13,7 +14,7 @@ use Rattle.table.specs.declared.Refusal.{Refusal}
 use Rattle.table.specs.declared.FunctionAnswer.{FunctionAnswer}
 use Rattle.table.specs.Answers.{functionTold, functionCheck}
 use Rattle.pages.specs.Page.{Wrote}
-use Rattle.report_text.specs.Report.{saysYes, functionLine, notionName}
+use Rattle.report_text.specs.Report.{saysYes, functionLine, operandsNamed, notionName}
 
 module _ (page : List ℕ) (at : ℕ) (after : List ℕ) (end : ℕ) where
   -- whether the function is the product, the sum, a copy
@@ -49,6 +50,11 @@ module _ (page : List ℕ) (at : ℕ) (after : List ℕ) (end : ℕ) where
 
   pub wrote-sni : (notion : ℕ) → (notion ≡ 1 → ⊥) → Wrote page at (bytes "SNI") after end → Wrote page at (notionName notion) after end
   wrote-sni notion e w = subst (λ (b : Bool). Wrote page at (cond b (bytes "NI") (bytes "SNI")) after end) (sym (ne-eqb notion 1 e)) w
+
+  pub wrote-operands : (a b x y : Bool) → a ≡ x → b ≡ y → Wrote page at (operandsNamed x y) after end → Wrote page at (operandsNamed a b) after end
+  wrote-operands a b x y e f w =
+      subst (λ (k : Bool). Wrote page at (operandsNamed k b) after end) (sym e)
+      (subst (λ (k : Bool). Wrote page at (operandsNamed x k) after end) (sym f) w)
 
 -- the function check's answer, by what it tells
 pub yes-said : (answer : FunctionAnswer) (told : Told) → answer ≡ FunctionAnswer.Yes → functionTold answer ≡ told → true ≡ saysYes told

@@ -4,6 +4,7 @@
 --     HoldsFor                       every set of at most the order's wires admits a choice of shares, as demand 3 says
 --     Computes                       the outer wires add up to a function
 --     NamesFunction                  which function is named, and what that says of the outer wires' values
+--     NamesOperands                  which operand is named, and what that says of a watcher
 --     Breaks, SaysNotion             holds exactly when every set has a choice; a break shows the first in the published order that has none
 --     ReportSays                     the four lines of the report on a text that spells a description
 --     Refuses                        the one line of a text that is turned down, with the number and offset that reading tells
@@ -19,6 +20,7 @@ use Rattle.description.specs.Listing.{recordsOf, wireOf}
 use Rattle.description.specs.Grammar.{Description, wiresOf, maskCount}
 use Rattle.verdict.specs.Guarantee.{Watched, HasChoice}
 use Rattle.verdict.specs.First.{NotAfter}
+use Rattle.verdict.specs.Dependence.{LeaksA, LeaksB}
 use Rattle.reader.specs.Answers.{refused, readText}
 use Rattle.pages.specs.Page.{wireNumbers}
 use Rattle.report_text.specs.Report.{orderLine, notionName, refusedLine, emptyTable, report}
@@ -48,11 +50,20 @@ pub record NamesFunction (d : Description) (line : List ℕ) : Type 0 where
   pub named : (line ≡ bytes "function product\n")
       ⊎ ((line ≡ bytes "function sum\n") ⊎ ((line ≡ bytes "function copy\n") ⊎ (line ≡ bytes "function other\n")))
 
+-- operand a is named exactly when the set admits no choice of shares even if every share of b may be chosen, b the other way round, and one of the
+-- three words always stands
+pub record NamesOperands (d : Description) (notion : ℕ) (set word : List ℕ) : Type 0 where
+  pub names-a : ((word ≡ bytes " by a") ⊎ (word ≡ bytes " by both")) ↔ LeaksA (tableOf d) (sharesOf d) (masksOf d) notion set
+  pub names-b : ((word ≡ bytes " by b") ⊎ (word ≡ bytes " by both")) ↔ LeaksB (tableOf d) (sharesOf d) (masksOf d) notion set
+  pub stands : (word ≡ bytes " by a") ⊎ ((word ≡ bytes " by b") ⊎ (word ≡ bytes " by both"))
+
 -- a line that does not say holds shows a set within the order that has no choice, and of all such sets the first in the published order: none has
 -- fewer wires, or as many and a lower rank
 pub record Breaks (d : Description) (notion : ℕ) (line : List ℕ) : Type 0 where
   pub set : List ℕ
-  pub shown : line ≡ notionName notion ++ (bytes " broken" ++ wireNumbers set) ++ bytes "\n"
+  pub word : List ℕ
+  pub shown : line ≡ notionName notion ++ (bytes " broken" ++ wireNumbers set ++ word) ++ bytes "\n"
+  pub operands : NamesOperands d notion set word
   pub some : 0 < length set
   pub watched : Watched (tableOf d) (d .order) set
   pub no-choice : HasChoice (tableOf d) (sharesOf d) (masksOf d) notion set → ⊥

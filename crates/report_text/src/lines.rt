@@ -1,11 +1,11 @@
 // The lines of a report, each written to a page where the one before it ends.
 ghost use mathlib.Core.Path.{_≡_};
-ghost use Prim.Native.Nat.{_≤_, _+_};
+ghost use Prim.Native.Nat.{_≤_, _+_, _*_};
 ghost use lib.ListN.{length};
 ghost use Rattle.table.specs.Answers.{functionCheck};
-ghost use Rattle.verdict.specs.Answers.{verdictOf};
+ghost use Rattle.verdict.specs.Answers.{verdictOf, setDependence};
 ghost use Rattle.pages.specs.Page.{Wrote};
-ghost use Rattle.report_text.specs.Report.{maxReport, orderLine, saysYes, functionLine, notionName, emptySet, verdictSaid, notionLine, checked, refusedLine, report};
+ghost use Rattle.report_text.specs.Report.{maxReport, orderLine, saysYes, functionLine, notionName, emptySet, operandsNamed, operands, brokenSaid, verdictSaid, notionLine, checked, refusedLine, report};
 use limits::MAX_SIZE;
 use limits::MAX_TABLE_BYTES;
 use limits::RECORD_BYTES;
@@ -14,6 +14,7 @@ use pages::write_text;
 use pages::write_wires;
 use reader::ReadAnswer;
 use table::FunctionAnswer;
+use verdict::DependenceAnswer;
 use verdict::VerdictAnswer;
 
 // The whole report on a text.
@@ -147,7 +148,7 @@ fn notion_name(page: &mut [u8], at: usize, notion: usize) -> usize
     write_text(page, at, b"SNI")
 }
 
-// What a verdict says, with the wire numbers of a set that breaks the notion.
+// What a verdict says.
 fn verdict_said(
     page: &mut [u8],
     at: usize,
@@ -157,18 +158,79 @@ fn verdict_said(
     notion: usize,
     order: usize,
 ) -> usize
-    requires { ⌜ at + 160 ≤ length (now page) ⌝ }
-    ensures { λ r. ⌜ Wrote (now (page .entry)) at (verdictSaid (verdictOf (now (table .entry)) shares masks notion order emptySet)) (now (page .exit)) r ⌝ }
-    ensures { λ r. ⌜ r ≤ at + 160 ⌝ }
+    requires { ⌜ at + 172 ≤ length (now page) ⌝ }
+    ensures { λ r. ⌜ Wrote (now (page .entry)) at (verdictSaid (setDependence (now (table .entry)) shares masks notion) (verdictOf (now (table .entry)) shares masks notion order emptySet)) (now (page .exit)) r ⌝ }
+    ensures { λ r. ⌜ r ≤ at + 172 ⌝ }
 {
     let mut set = [0u16; MAX_SIZE];
     let answer = verdict::verdict(table, shares, masks, notion, order, &mut set);
     match answer {
         VerdictAnswer::Holds => write_text(page, at, b" holds"),
         VerdictAnswer::Broken { size } => {
-            let next = write_text(page, at, b" broken");
-            write_wires(page, next, &set[0..size])
+            broken_said(page, at, table, shares, masks, notion, &set[0..size])
         }
         VerdictAnswer::Refused(why) => write_named(page, at, b" refused ", why.number() as usize),
     }
+}
+
+// The wire numbers of a set that breaks the notion, and the operands that leak by it.
+fn broken_said(
+    page: &mut [u8],
+    at: usize,
+    table: &[u8],
+    shares: usize,
+    masks: usize,
+    notion: usize,
+    set: &[u16],
+) -> usize
+    requires { ⌜ at + 15 + 21 * length (now set) ≤ length (now page) ⌝ }
+    ensures { λ r. ⌜ Wrote (now (page .entry)) at (brokenSaid (setDependence (now (table .entry)) shares masks notion) (now (set .entry))) (now (page .exit)) r ⌝ }
+    ensures { λ r. ⌜ r ≤ at + 15 + 21 * length (now (set .entry)) ⌝ }
+{
+    let next = write_text(page, at, b" broken");
+    let end = write_wires(page, next, set);
+    operands_said(page, end, table, shares, masks, notion, set)
+}
+
+// The operands of which a set depends on more shares than the notion allows it.
+fn operands_said(
+    page: &mut [u8],
+    at: usize,
+    table: &[u8],
+    shares: usize,
+    masks: usize,
+    notion: usize,
+    set: &[u16],
+) -> usize
+    requires { ⌜ at + 8 ≤ length (now page) ⌝ }
+    ensures { λ r. ⌜ Wrote (now (page .entry)) at (operands (setDependence (now (table .entry)) shares masks notion (now (set .entry)))) (now (page .exit)) r ⌝ }
+    ensures { λ r. ⌜ r ≤ at + 8 ⌝ }
+{
+    let answer = verdict::set_dependence(table, shares, masks, notion, set);
+    match answer {
+        DependenceAnswer::Depends {
+            of_a,
+            of_b,
+            allowed,
+            masked,
+        } => operands_named(page, at, allowed < of_a, allowed < of_b),
+        DependenceAnswer::Refused(why) => at,
+    }
+}
+
+fn operands_named(page: &mut [u8], at: usize, a: bool, b: bool) -> usize
+    requires { ⌜ at + 8 ≤ length (now page) ⌝ }
+    ensures { λ r. ⌜ Wrote (now (page .entry)) at (operandsNamed a b) (now (page .exit)) r ⌝ }
+    ensures { λ r. ⌜ r ≤ at + 8 ⌝ }
+{
+    if a {
+        if b {
+            return write_text(page, at, b" by both");
+        }
+        return write_text(page, at, b" by a");
+    }
+    if b {
+        return write_text(page, at, b" by b");
+    }
+    at
 }

@@ -1,28 +1,32 @@
 -- Which call gets which number: each entry of `verdict` tells a refusal exactly when its condition is the first that holds, values exactly when none does,
 -- and a refusal leaves the buffer as it was.
---     opened-chain                       both entries begin with the chain of a table's tests and the notion's
---     verdict-settled, range-settled     the entries, for all arguments
---     verdict-ordered, range-asked       values are told exactly where no test turns the call down
+--     opened-chain                       every entry begins with the chain of a table's tests and the notion's
+--     verdict-settled, range-settled, dependence-settled     the entries, for all arguments
+--     verdict-ordered, range-asked, dependence-asked         values are told exactly where no test turns the call down
 --     verdict-answered, range-answered   and what is told then is the first breaking set of the list that is searched
+--     dependence-answered                or the counts of the set that was asked for
 use Prim.Native.Nat.{ℕ, _≤_, _<_}
 use native.Mathlib.Omega.{arith}
-use mathlib.Core.Path.{_≡_, refl}
+use mathlib.Core.Path.{_≡_, refl, sym, _∙_}
 use mathlib.Core.Logic.{_↔_, Iff·trans, inl, inr, ⊎-elim}
-use mathlib.Core.List.{List, [], _∷_, _++_}
+use mathlib.Core.Bool.{Bool, true, false, true≢false}
+use mathlib.Core.List.{List, [], _∷_, _++_, map}
 use lib.ListN.{length}
 use Rattle.limits.specs.Limits.{maxSize}
-use Rattle.basics.specs.Told.{Lent, values, turnedDown}
-use Rattle.basics.specs.Conditions.{Condition, _when_, None, SettlesLent}
-use Rattle.basics.proofs.Conditions.{Chain, own, test, settles-lent, less, equal, neither, not-both, not-less, not-least}
+use Rattle.basics.specs.Told.{Told, Lent, values, refusal, turnedDown}
+use Rattle.basics.specs.Conditions.{Condition, _when_, None, Settles, SettlesLent}
+use Rattle.basics.proofs.Conditions.{Chain, own, test, settles-told, settles-lent, less, equal, neither, not-both, not-less, not-least}
 use Rattle.counts.specs.Counts.{binom}
-use Rattle.records.specs.Layout.{wireCount}
+use Rattle.records.specs.Layout.{wireAt, wireCount}
 use Rattle.table.specs.Conditions.{tableConditions}
 use Rattle.table.proofs.Conditions.{table-chain, sound-none, none-sound, accepted-exactly}
-use Rattle.revolving.specs.Order.{rankOf}
+use Rattle.sets.proofs.Conditions.{rising-fails, below-fails}
+use Rattle.revolving.specs.Order.{rankOf, rising, below}
 use Rattle.search.specs.Search.{searched, stretch, breakingSets}
-use Rattle.verdict.specs.Answers.{notionOf, opened, firstShown, firstRanked, verdictOf, rangeCheck}
+use Rattle.verdict.specs.Answers.{notionOf, opened, firstShown, firstRanked, verdictOf, rangeCheck, depended, setDependence}
 use Rattle.verdict.specs.Jobs.{Ordered, Asked}
-use Rattle.verdict.specs.Conditions.{WrongNotion, verdictConditions, rangeConditions}
+use Rattle.verdict.specs.Conditions.{WrongNotion, verdictConditions, rangeConditions, dependenceConditions}
+use Rattle.verdict.specs.Dependence.{SetAsked}
 
 shown-told : (l : List (List ℕ)) (buffer : List ℕ) → (v : List ℕ) × (firstShown l buffer .told ≡ values v)
 shown-told [] buffer = ([], refl)
@@ -113,3 +117,51 @@ module _ (table : List ℕ) (shares masks notion : ℕ) where
     pub range-answered : Asked table shares masks notion size buffer → from ≤ to → to ≤ binom (wireCount table) size
         → rangeCheck table shares masks notion size from to buffer ≡ ranked
     range-answered o rises ends = range-chain .none (range-none .1 (o, rises, ends))
+
+  module _ (set : List ℕ) where
+    abbrev counted : Told
+    counted = depended (notionOf notion) shares masks (map (wireAt table) set)
+
+    dependence-chain : Chain refusal counted (dependenceConditions table shares masks notion set) (setDependence table shares masks notion set)
+    dependence-chain =
+        opened-chain
+        (test 17 (less maxSize (length set))
+        (test 21 (not-both (rising-fails set) (below-fails (wireCount table) set))
+        (own refusal counted)))
+
+    pub dependence-settled : Settles (dependenceConditions table shares masks notion set) (setDependence table shares masks notion set)
+    dependence-settled = settles-told dependence-chain
+
+    dependence-none : None (dependenceConditions table shares masks notion set) ↔ SetAsked table shares masks notion set
+    dependence-none = (
+      λ n. let s = none-sound table shares masks n in
+          let small : maxSize < length set → ⊥ = s .1 .1 .0 in
+          record {
+            sound = accepted-exactly table shares masks .1 (s .0);
+            known = s .1 .0;
+            small = omega arith;
+            distinct = passes (rising set) (λ e. s .1 .1 .1 .0 (inl (rising-fails set .0 e)));
+            within = passes (below (wireCount table) set) (λ e. s .1 .1 .1 .0 (inr (below-fails (wireCount table) set .0 e)));
+          },
+      λ o. sound-none table shares masks (accepted-exactly table shares masks .0 (o .sound)) (
+        o .known,
+        (
+          λ h. omega (arith, h, o .small),
+          (
+            ⊎-elim (λ f. true≢false (sym (o .distinct) ∙ rising-fails set .1 f))
+                (λ b. true≢false (sym (o .within) ∙ below-fails (wireCount table) set .1 b)),
+            tt,
+          ),
+        ),
+      ),
+    )
+      where
+        passes : (b : Bool) → (b ≡ false → ⊥) → b ≡ true
+        passes true h = refl
+        passes false h = absurd (h refl)
+
+    pub dependence-asked : ((l : List ℕ) × (setDependence table shares masks notion set ≡ values l)) ↔ SetAsked table shares masks notion set
+    dependence-asked = Iff·trans (dependence-settled .answered) dependence-none
+
+    pub dependence-answered : SetAsked table shares masks notion set → setDependence table shares masks notion set ≡ counted
+    dependence-answered o = dependence-chain .none (dependence-none .1 o)

@@ -1,15 +1,23 @@
-// Verdicts: whether a gadget's table holds NI or SNI at an order, with the first breaking set where it does not, and the same for a range
-// of ranks of one size, so that machines can divide the search (scope, "Numbering and dividing" and "What each operation turns down").
+// Verdicts: whether a gadget's table holds NI or SNI at an order, with the first breaking set where it does not, the same for a range
+// of ranks of one size, so that machines can divide the search (scope, "Numbering and dividing" and "What each operation turns down"), and of
+// any set on how many shares of each operand it depends, so that a designer sees which operand leaks.
 // Every argument may be anything its type holds: what is out of range is refused, in the scope's order, and a refusal alters no lent number.
 ghost use mathlib.Core.Path.{_≡_};
 ghost use Prim.Native.Nat.{_≤_};
 ghost use lib.ListN.{length};
 ghost use Rattle.verdict.specs.Answers.{refusalNumber, openedTold, opens, verdictTold, verdictOf, rangeTold, rangeCheck, written};
+ghost use Rattle.verdict.specs.Answers.{dependenceTold, setDependence};
 ghost use Rattle.verdict.specs.First.{VerdictFinds, RangeFinds};
 ghost use Rattle.verdict.specs.Guarantee.{Guarantee};
+ghost use Rattle.verdict.specs.Dependence.{DependenceMeans};
 use counts::count;
 use limits::MAX_SIZE;
 use limits::RECORD_BYTES;
+use records::sums::dependence;
+use records::sums::is_masked;
+use records::sums::payers;
+use records::sums::sum_of_set;
+use revolving::is_rising;
 use table::TableAnswer;
 use table::table_check;
 use wires::Notion;
@@ -22,6 +30,7 @@ pub enum Refusal {
     BufferTooShort,
     SizeTooLarge,
     RanksOutOfRange,
+    NotASet,
 }
 
 impl Refusal {
@@ -36,6 +45,7 @@ impl Refusal {
             Refusal::BufferTooShort => 16,
             Refusal::SizeTooLarge => 17,
             Refusal::RanksOutOfRange => 18,
+            Refusal::NotASet => 21,
         }
     }
 }
@@ -54,13 +64,24 @@ pub enum RangeAnswer {
     Refused(Refusal),
 }
 
+// On how many shares of a and of b the set depends, how many of each the notion allows it, and whether a mask is left in its sum.
+pub enum DependenceAnswer {
+    Depends {
+        of_a: usize,
+        of_b: usize,
+        allowed: usize,
+        masked: bool,
+    },
+    Refused(Refusal),
+}
+
 // The notion that was asked for, on a table that passed its tests.
 enum Opened {
     For(Notion),
     Refused(Refusal),
 }
 
-// The tests of the table, then 14: what both entries begin with.
+// The tests of the table, then 14: what every entry begins with.
 fn opening(table: &[u8], shares: usize, masks: usize, notion: usize) -> Opened
     ensures { λ r. ⌜ openedTold r ≡ opens (now (table .entry)) shares masks notion ⌝ }
 {
@@ -153,6 +174,39 @@ pub fn range_check(
             }
             write(&probes[0..size], set);
             RangeAnswer::Found { size, rank }
+        }
+    }
+}
+
+// On how much a set of wires depends. An operand leaks by a set without masks where its count is above what the notion allows.
+pub fn set_dependence(
+    table: &[u8],
+    shares: usize,
+    masks: usize,
+    notion: usize,
+    set: &[u16],
+) -> DependenceAnswer
+    ensures { λ r. ⌜ dependenceTold r ≡ setDependence (now (table .entry)) shares masks notion (now (set .entry)) ⌝ }
+    ensures { λ r. ⌜ DependenceMeans r (now (table .entry)) shares masks notion (now (set .entry)) ⌝ }
+{
+    let opened = opening(table, shares, masks, notion);
+    match opened {
+        Opened::Refused(why) => DependenceAnswer::Refused(why),
+        Opened::For(kind) => {
+            if MAX_SIZE < set.len() {
+                return DependenceAnswer::Refused(Refusal::SizeTooLarge);
+            }
+            if !is_rising(table.len() / RECORD_BYTES, set) {
+                return DependenceAnswer::Refused(Refusal::NotASet);
+            }
+            let sum = sum_of_set(table, set);
+            let on = dependence(sum);
+            DependenceAnswer::Depends {
+                of_a: on.of_a,
+                of_b: on.of_b,
+                allowed: payers(table, kind, set),
+                masked: is_masked(sum),
+            }
         }
     }
 }

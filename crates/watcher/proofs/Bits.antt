@@ -7,14 +7,16 @@
 --     pick-none, pick-first       what is chosen from the empty list; from a longer one, by the first bit
 --     pick-map                    chosen from a mapped list
 --     pick-nothing, pick-all      bits that are all 0 choose nothing, bits that are all 1 everything
+--     pick-size                   what is chosen is shorter, or everything
 --     parity-first, parity-add    sums over chosen elements are added where the choices are
 --     bits-first                  all lists of n + 1 bits: those that begin with 0, those that begin with 1
 --     bits-cong                   functions that are equal on lists of n bits
 --     bits-some, bits-where       what holds of some list of n bits
 --     bits-count                  a test that passes on the list of n zeros counts
 --     bits-shift                  one list added to all lists of n bits gives all lists of n bits
-use Prim.Native.Nat.{ℕ, zero, suc, _+_, _≤_}
+use Prim.Native.Nat.{ℕ, zero, suc, _+_, _≤_, _<_}
 use native.Mathlib.Nat.{not-suc-le-zero, le-of-suc-le-suc, zero-add, add-comm, add-assoc, suc-inj, suc-ne-zero}
+use native.Mathlib.Omega.{arith}
 use mathlib.Core.Path.{_≡_, refl, sym, _∙_, ap, ap₂}
 use mathlib.Core.Logic.{_⊎_, inl, inr}
 use mathlib.Core.Bool.{Bool, true, false, cond, _&&_, _||_, xor, or-assoc, or-false}
@@ -84,6 +86,19 @@ module _ {A : Type 0} where
   pub pick-all : (v : List A) → pick (replicate (length v) true) v ≡ v
   pick-all [] = refl
   pick-all (x ∷ v) = ap {B = List A} (λ u. x ∷ u) (pick-all v)
+
+  pub pick-size : (l : List Bool) (v : List A) → (length (pick l v) < length v) ⊎ (pick l v ≡ v)
+  pick-size [] [] = inr refl
+  pick-size [] (x ∷ v) = inl (omega arith)
+  pick-size (b ∷ l) [] = inr refl
+  pick-size (b ∷ l) (x ∷ v) = go b (pick-size l v)
+    where
+      go : (b : Bool) → (length (pick l v) < length v) ⊎ (pick l v ≡ v)
+          → (length (cond b (x ∷ pick l v) (pick l v)) < suc (length v)) ⊎ (cond b (x ∷ pick l v) (pick l v) ≡ x ∷ v)
+      go true (inl less) = inl (omega (arith, less))
+      go true (inr e) = inr (ap {B = List A} (λ u. x ∷ u) e)
+      go false (inl less) = inl (omega (arith, less))
+      go false (inr e) = inl (omega (arith, ap length e))
 
   pub pick-map : {B : Type 0} (f : A → B) (l : List Bool) (v : List A) → map f (pick l v) ≡ pick l (map f v)
   pick-map f [] v = refl

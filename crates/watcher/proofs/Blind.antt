@@ -1,5 +1,4 @@
 -- Inputs that agree on the shares of the sums without masks give every pattern from equally many mask settings.
---     value-shift     the value under settings that are added
 --     evenly          terms with a mask have either value for half of the settings
 --     free m v l      whether the sum of the wires of v that l chooses has no mask
 --     chosen          the shares on which some sum without masks depends
@@ -12,11 +11,11 @@ use mathlib.Core.Bool.{Bool, true, false, not, _&&_, xor}
 use mathlib.Core.List.{List}
 use lib.ListN.{length, length-map}
 use lib.Dec.{eqb}
-use Rattle.basics.specs.Folds.{parity, count, oneIf, upTo}
-use Rattle.basics.proofs.Tests.{and-both, xor-comm, xor-assoc, xor-and, xor-true}
+use Rattle.basics.specs.Folds.{parity, count, oneIf}
+use Rattle.basics.proofs.Tests.{and-both, xor-comm, xor-assoc, xor-true}
 use Rattle.basics.proofs.Folds.{fold-cong, some-where}
 use Rattle.wires.specs.Wires.{Terms, Wire, Input, value, total, swap, dependsA, masked}
-use Rattle.wires.proofs.Value.{parity-both, value-agree}
+use Rattle.wires.proofs.Value.{value-shift, value-agree}
 use Rattle.wires.proofs.Dependence.{parity-one}
 use Rattle.watcher.specs.Watcher.{bitLists, maskOf, shown, equal, comes, Agree}
 use Rattle.watcher.proofs.Counting.{sum, sum-both, sum-times, sum-exchange}
@@ -25,21 +24,6 @@ use Rattle.watcher.proofs.Patterns.{shown-sum}
 use Rattle.watcher.proofs.Halves.{halves}
 use Rattle.watcher.proofs.Shares.{named}
 use Rattle.watcher.proofs.Apart.{differ, told-apart}
-
-pub value-shift : (n m : ℕ) (x : Input) (r d : ℕ → Bool) (t : Terms)
-    → value n m x (λ k. xor (r k) (d k)) t ≡ xor (value n m x r t) (parity (λ k. t .mask k && d k) (upTo m))
-unfolding value
-value-shift n m x r d t =
-    let p = parity (λ i. parity (λ j. t .product i j && (x .ofA i && x .ofB j)) (upTo n)) (upTo n) in
-    let a = parity (λ i. t .shareA i && x .ofA i) (upTo n) in
-    let b = parity (λ j. t .shareB j && x .ofB j) (upTo n) in
-    let k = parity (λ k. t .mask k && r k) (upTo m) in
-    let c = parity (λ k. t .mask k && d k) (upTo m) in
-    ap (λ (z : Bool). xor p (xor a (xor b z)))
-    (fold-cong xor false (λ k. t .mask k && xor (r k) (d k)) (λ k. xor (t .mask k && r k) (t .mask k && d k)) (upTo m)
-    (λ k. xor-and (t .mask k) (r k) (d k))
-    ∙ parity-both (λ k. t .mask k && r k) (λ k. t .mask k && d k) (upTo m))
-    ∙ ap (λ (z : Bool). xor p (xor a z)) (sym (xor-assoc b k c)) ∙ ap (xor p) (sym (xor-assoc a (xor b k) c)) ∙ sym (xor-assoc p (xor a (xor b k)) c)
 
 -- adding the setting that sets one of the masks alone turns the value around
 pub evenly : (n m : ℕ) (x : Input) (t : Terms) (b : Bool) → masked m t ≡ true

@@ -5,9 +5,14 @@
 --     free-present     some choice has a sum without masks
 --     within           a set that does not break, and has no mask, depends on no more shares of an operand than it pays for
 --     choice-exactly   a set admits a choice exactly when these shares are few enough, of each operand
+--     few-chosen       they are no more than the notion allows, where no sum without masks depends on more than its wires pay for
+--     all-chosen       and no fewer than those on which the sum of the whole set depends, where it has no mask
 --     choice           where no part of a set breaks the notion it admits one
 --     no-choice        a set that breaks the notion admits none
+--     leaks-a, leaks-b     of a set of which no smaller part breaks the notion: one operand exceeds exactly when there is no choice even if every
+--                      share of the other may be chosen
 use Prim.Native.Nat.{ℕ, _≤_, _<_}
+use native.Mathlib.Decide.{decLt}
 use native.Mathlib.Nat.{le-trans}
 use native.Mathlib.Omega.{arith}
 use mathlib.Core.Path.{_≡_, refl, sym, _∙_, ap, ap₂}
@@ -24,9 +29,9 @@ use Rattle.wires.specs.declared.Notion.{Notion}
 use Rattle.wires.specs.Wires.{Terms, Wire, none, plus, total, swap, dependsA, countA, countB, masked, pays, allowed, breaks}
 use Rattle.wires.proofs.Value.{terms-ext}
 use Rattle.wires.proofs.Breaks.{Breaks, breaks-exactly}
-use Rattle.watcher.specs.Watcher.{bitLists, Choice}
-use Rattle.watcher.proofs.Counting.{count-le, covered}
-use Rattle.watcher.proofs.Bits.{add, pick, pick-nothing, pick-all, parity-add, bits-some, bits-where, bits-count}
+use Rattle.watcher.specs.Watcher.{bitLists, ChoiceWithin, Choice, ChoiceByA, ChoiceByB}
+use Rattle.watcher.proofs.Counting.{count-le, covered, count-up-to}
+use Rattle.watcher.proofs.Bits.{add, pick, pick-nothing, pick-all, pick-size, parity-add, bits-some, bits-where, bits-count}
 use Rattle.watcher.proofs.Halves.{Closed}
 use Rattle.watcher.proofs.Shares.{few}
 use Rattle.watcher.proofs.Blind.{free, chosen, blind}
@@ -70,9 +75,9 @@ within notion n m s whole unmasked =
     (ltb-false (allowed notion s) (countA n (total s)) (parts .0), ltb-false (allowed notion s) (countB n (total s)) (parts .1))
 
 -- the choice is made of just the shares that every choice has to hold
-pub choice-exactly : (notion : Notion) (n m : ℕ) (v : List Wire)
-    → Choice notion n m v ↔ ((count (chosen n m v (λ t. t)) (upTo n) ≤ allowed notion v) × (count (chosen n m v swap) (upTo n) ≤ allowed notion v))
-choice-exactly notion n m v = (
+pub choice-exactly : (mostA mostB n m : ℕ) (v : List Wire)
+    → ChoiceWithin mostA mostB n m v ↔ ((count (chosen n m v (λ t. t)) (upTo n) ≤ mostA) × (count (chosen n m v swap) (upTo n) ≤ mostB))
+choice-exactly mostA mostB n m v = (
   there,
   λ h. record {
     chosenA = chosen n m v (λ t. t);
@@ -98,42 +103,99 @@ choice-exactly notion n m v = (
             let unmasked = not-true (masked m t) (and-left (not (masked m t)) (dependsA n (g t) i) (w .2)) in
             ap not (needs (w .0) unmasked i below (and-right (not (masked m t)) (dependsA n (g t) i) (w .2)))
 
-    there : Choice notion n m v
-        → (count (chosen n m v (λ t. t)) (upTo n) ≤ allowed notion v) × (count (chosen n m v swap) (upTo n) ≤ allowed notion v)
+    there : ChoiceWithin mostA mostB n m v → (count (chosen n m v (λ t. t)) (upTo n) ≤ mostA) × (count (chosen n m v swap) (upTo n) ≤ mostB)
     there c = (
-      le-trans (no-more (λ t. t) (c .chosenA) (needed notion n m v c)) (c .fewA),
-      le-trans (no-more swap (c .chosenB) (needed-b notion n m v c)) (c .fewB),
+      le-trans (no-more (λ t. t) (c .chosenA) (needed mostA mostB n m v c)) (c .fewA),
+      le-trans (no-more swap (c .chosenB) (needed-b mostA mostB n m v c)) (c .fewB),
     )
+
+-- an operand: its terms are added as terms are, and a set that does not break the notion depends on no more of its shares than it pays for
+record Operand (notion : Notion) (n m : ℕ) (g : Terms → Terms) : Type 0 where
+  pub adds : (t u : Terms) → g (plus t u) ≡ plus (g t) (g u)
+  pub bounded : (s : List Wire) → breaks notion n m s ≡ false → not (masked m (total s)) ≡ true → countA n (g (total s)) ≤ allowed notion s
+
+module _ (notion : Notion) (n m : ℕ) where
+  operand-a : Operand notion n m (λ t. t)
+  operand-a = record { adds = λ t u. refl; bounded = λ s whole free. within notion n m s whole free .0 }
+
+  operand-b : Operand notion n m swap
+  operand-b = record { adds = λ t u. refl; bounded = λ s whole free. within notion n m s whole free .1 }
+
+module _ (notion : Notion) (n m : ℕ) (v : List Wire) (g : Terms → Terms) (o : Operand notion n m g) where
+  few-chosen : ((l : List Bool) → free m v l ≡ true → countA n (g (total (pick l v))) ≤ allowed notion (pick l v))
+      → count (chosen n m v g) (upTo n) ≤ allowed notion v
+  few-chosen =
+      few n (pays notion) v (free m v) (free-closed m v) (free-present m v) (λ l. g (total (pick l v)))
+      (λ l d. ap g (total-add v l d) ∙ o .adds (total (pick l v)) (total (pick d v)))
+
+  -- the whole set is one of its parts
+  all-chosen : masked m (total v) ≡ false → countA n (g (total v)) ≤ count (chosen n m v g) (upTo n)
+  unfolding countA
+  all-chosen unmasked =
+      count-le (dependsA n (g (total v))) (chosen n m v g) (upTo n)
+      (λ i d. bits-some (length v) (λ l. free m v l && dependsA n (g (total (pick l v))) i) (replicate (length v) true)
+      (length-replicate (length v) true)
+      (and-both (free m v (replicate (length v) true)) (dependsA n (g (total (pick (replicate (length v) true) v))) i)
+      (ap (λ (s : List Wire). not (masked m (total s))) (pick-all v) ∙ ap not unmasked)
+      (ap (λ (s : List Wire). dependsA n (g (total s)) i) (pick-all v) ∙ d)))
+
+  -- a set of which no smaller part breaks: where the whole set depends on few enough shares of the operand, so does every part
+  exceeds-exactly : masked m (total v) ≡ false → ((l : List Bool) → length (pick l v) < length v → breaks notion n m (pick l v) ≡ false)
+      → (allowed notion v < countA n (g (total v))) ↔ (count (chosen n m v g) (upTo n) ≤ allowed notion v → ⊥)
+  exceeds-exactly unmasked smaller = (
+    λ more most. omega (arith, more, most, all-chosen unmasked),
+    λ never. by-count never (decLt (allowed notion v) (countA n (g (total v)))),
+  )
+    where
+      by-count : (count (chosen n m v g) (upTo n) ≤ allowed notion v → ⊥) → Dec (allowed notion v < countA n (g (total v)))
+          → allowed notion v < countA n (g (total v))
+      by-count never (yes more) = more
+      by-count never (no less) = absurd (never (few-chosen (λ l e. by-part l e (pick-size l v))))
+        where
+          by-part : (l : List Bool) → free m v l ≡ true → (length (pick l v) < length v) ⊎ (pick l v ≡ v)
+              → countA n (g (total (pick l v))) ≤ allowed notion (pick l v)
+          by-part l e (inl shorter) = o .bounded (pick l v) (smaller l shorter) e
+          by-part l e (inr all) =
+              omega (arith, ap (λ (s : List Wire). countA n (g (total s))) all, ap (allowed notion) all)
 
 pub choice : (notion : Notion) (n m : ℕ) (v : List Wire) → ((l : List Bool) → breaks notion n m (pick l v) ≡ false) → Choice notion n m v
 choice notion n m v whole =
-    choice-exactly notion n m v .1 (
-      few n (pays notion) v (free m v) (free-closed m v) (free-present m v) (λ l. total (pick l v)) (total-add v)
-          (λ l e. within notion n m (pick l v) (whole l) e .0),
-      few n (pays notion) v (free m v) (free-closed m v) (free-present m v) (λ l. swap (total (pick l v))) (λ l d. ap swap (total-add v l d))
-          (λ l e. within notion n m (pick l v) (whole l) e .1),
+    choice-exactly (allowed notion v) (allowed notion v) n m v .1 (
+      few-chosen notion n m v (λ t. t) (operand-a notion n m) (λ l. operand-a notion n m .bounded (pick l v) (whole l)),
+      few-chosen notion n m v swap (operand-b notion n m) (λ l. operand-b notion n m .bounded (pick l v) (whole l)),
     )
 
 pub no-choice : (notion : Notion) (n m : ℕ) (v : List Wire) → breaks notion n m v ≡ true → Choice notion n m v → ⊥
-unfolding countA masked
+unfolding masked
 no-choice notion n m v e c = go (h .exceeds)
   where
     h : Breaks notion n m v
     h = breaks-exactly notion n m v .0 e
 
-    -- the whole set is one of its parts
-    of-all : (g : Terms → Terms) → countA n (g (total v)) ≤ count (chosen n m v g) (upTo n)
-    of-all g =
-        count-le (dependsA n (g (total v))) (chosen n m v g) (upTo n)
-        (λ i d. bits-some (length v) (λ l. free m v l && dependsA n (g (total (pick l v))) i) (replicate (length v) true)
-        (length-replicate (length v) true)
-        (and-both (free m v (replicate (length v) true)) (dependsA n (g (total (pick (replicate (length v) true) v))) i)
-        (ap (λ (s : List Wire). not (masked m (total s))) (pick-all v) ∙ ap not (none-below m (total v .mask) (h .unmasked)))
-        (ap (λ (s : List Wire). dependsA n (g (total s)) i) (pick-all v) ∙ d)))
+    unmasked : masked m (total v) ≡ false
+    unmasked = none-below m (total v .mask) (h .unmasked)
 
     few-of : (count (chosen n m v (λ t. t)) (upTo n) ≤ allowed notion v) × (count (chosen n m v swap) (upTo n) ≤ allowed notion v)
-    few-of = choice-exactly notion n m v .0 c
+    few-of = choice-exactly (allowed notion v) (allowed notion v) n m v .0 c
 
     go : (allowed notion v < countA n (total v)) ⊎ (allowed notion v < countB n (total v)) → ⊥
-    go (inl more) = omega (arith, of-all (λ t. t), few-of .0)
-    go (inr more) = omega (arith, of-all swap, few-of .1)
+    go (inl more) = omega (arith, all-chosen notion n m v (λ t. t) (operand-a notion n m) unmasked, few-of .0)
+    go (inr more) = omega (arith, all-chosen notion n m v swap (operand-b notion n m) unmasked, few-of .1)
+
+module _ (notion : Notion) (n m : ℕ) (v : List Wire) (unmasked : masked m (total v) ≡ false)
+    (smaller : (l : List Bool) → length (pick l v) < length v → breaks notion n m (pick l v) ≡ false) where
+  -- there are no more than n shares to choose
+  enough : (g : Terms → Terms) → count (chosen n m v g) (upTo n) ≤ n
+  enough g = count-up-to n (chosen n m v g)
+
+  pub leaks-a : (allowed notion v < countA n (total v)) ↔ (ChoiceByA notion n m v → ⊥)
+  leaks-a =
+      let exactly = exceeds-exactly notion n m v (λ t. t) (operand-a notion n m) unmasked smaller in
+      let chooses = choice-exactly (allowed notion v) n n m v in
+      (λ more c. exactly .0 more (chooses .0 c .0), λ none. exactly .1 (λ most. none (chooses .1 (most, enough swap))))
+
+  pub leaks-b : (allowed notion v < countB n (total v)) ↔ (ChoiceByB notion n m v → ⊥)
+  leaks-b =
+      let exactly = exceeds-exactly notion n m v swap (operand-b notion n m) unmasked smaller in
+      let chooses = choice-exactly n (allowed notion v) n m v in
+      (λ more c. exactly .0 more (chooses .0 c .1), λ none. exactly .1 (λ most. none (chooses .1 (enough (λ t. t), most))))

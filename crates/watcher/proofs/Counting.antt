@@ -5,16 +5,17 @@
 --     sum-exchange             two sums in either order
 --     count-split              the elements that pass a test, with a second one and without it
 --     count-none, count-some   a test that passes nowhere; that passes somewhere
+--     count-up-to              of the numbers below n no more than n pass a test
 --     covered                  where nothing passes one test and not another, no more pass the one than the other
-use Prim.Native.Nat.{ℕ, _+_, _*_, _≤_}
+use Prim.Native.Nat.{ℕ, zero, suc, _+_, _*_, _≤_}
 use native.Mathlib.Nat.{zero-add, add-comm, add-assoc, add-le-add, add-mul, zero-mul, le-refl}
 use native.Mathlib.Omega.{arith}
 use mathlib.Core.Path.{_≡_, refl, sym, _∙_, ap}
 use mathlib.Core.Bool.{Bool, true, false, not, _&&_, _||_, true≢false, false≢true}
 use mathlib.Core.List.{List, [], _∷_}
-use Rattle.basics.specs.Folds.{fold, some, count, oneIf}
+use Rattle.basics.specs.Folds.{fold, some, count, oneIf, upTo}
 use Rattle.basics.proofs.Tests.{or-none}
-use Rattle.basics.proofs.Folds.{fold-cong, fold-hom, fold-unit, fold-both, fold-exchange}
+use Rattle.basics.proofs.Folds.{fold-cong, fold-hom, fold-unit, fold-both, fold-exchange, fold-first}
 
 module _ {A : Type 0} where
   abbrev pub sum : (A → ℕ) → List A → ℕ
@@ -80,3 +81,12 @@ module _ {A : Type 0} where
       go : (a b : Bool) → (a ≡ true → b ≡ true) → (a && not b) ≡ false
       go true b e = ap not (e refl)
       go false b e = refl
+
+pub count-up-to : (n : ℕ) (f : ℕ → Bool) → count f (upTo n) ≤ n
+unfolding upTo
+count-up-to zero f = le-refl 0
+count-up-to (suc n) f = omega (arith, fold-first _+_ 0 n (λ i. oneIf (f i)), one (f 0), count-up-to n (λ i. f (suc i)))
+  where
+    one : (b : Bool) → oneIf b ≤ 1
+    one true = le-refl 1
+    one false = omega arith

@@ -15,10 +15,9 @@ use lib.Dec.{eqb}
 use Rattle.basics.specs.Folds.{parity, oneIf, upTo}
 use Rattle.basics.proofs.Tests.{xor-false}
 use Rattle.basics.proofs.Folds.{fold-unit, fold-below, never}
-use Rattle.wires.specs.declared.Notion.{Notion}
 use Rattle.wires.specs.Wires.{Terms, Wire, Input, value, total, flipA, flipB, dependsA, dependsB, masked}
 use Rattle.wires.proofs.Dependence.{depends-seen, depends-seen-b}
-use Rattle.watcher.specs.Watcher.{bitLists, maskOf, shown, equal, comes, Agree, Choice}
+use Rattle.watcher.specs.Watcher.{bitLists, maskOf, shown, equal, comes, Agree, ChoiceWithin}
 use Rattle.watcher.proofs.Counting.{count-some}
 use Rattle.watcher.proofs.Bits.{pick, bits-some}
 use Rattle.watcher.proofs.Patterns.{equal-self, equal-exactly, shown-sum}
@@ -51,7 +50,7 @@ untouched chosen i out f k taken = go (eqb k i) refl
     go true e = absurd (true≢false (sym taken ∙ ap chosen (eqb-true k i e) ∙ out))
     go false e = sym (xor-false (f k))
 
-module _ (notion : Notion) (n m : ℕ) (v : List Wire) (c : Choice notion n m v) (l : List Bool) (free : masked m (total (pick l v)) ≡ false) where
+module _ (mostA mostB n m : ℕ) (v : List Wire) (c : ChoiceWithin mostA mostB n m v) (l : List Bool) (free : masked m (total (pick l v)) ≡ false) where
   -- the sum of the wires that l chooses
   abbrev part : Terms
   part = total (pick l v)

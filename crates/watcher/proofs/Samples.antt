@@ -4,6 +4,7 @@
 --     mask-watched                    with the mask watched on an outer wire: no choice under SNI, one under NI
 --     agreement-on-both               a secret of a, of b, in the clear: no choice
 --     outer-pays-nothing              an outer share alone: no choice under SNI, one under NI
+--     by-a, by-b                      a secret of a, of b, in the clear: which operand leaks
 --     product-watched                 a product alone: a share of each operand
 --     broken-inside                   a set that does not break, with a part that does: no choice
 --     empty-set                       nothing watched, nothing chosen
@@ -23,9 +24,11 @@ use Rattle.wires.specs.declared.Notion.{Notion}
 use Rattle.wires.specs.declared.Notion.the-variants.{Ni, Sni}
 use Rattle.wires.specs.Wires.{Terms, Wire, Input, value, plus, swap, dependsA, dependsB, countA, masked, allowed, breaks}
 use Rattle.wires.proofs.Value.{value-plus, value-agree}
+use Rattle.wires.proofs.Breaks.{empty-breaks-nothing}
 use Rattle.wires.proofs.Units.{justProduct, justShare, justMask, value-of-share, value-of-mask}
-use Rattle.watcher.specs.Watcher.{bitLists, maskOf, shown, equal, comes, Choice}
-use Rattle.watcher.proofs.Choice.{choice-exactly, no-choice}
+use Rattle.watcher.specs.Watcher.{bitLists, maskOf, shown, equal, comes, ChoiceWithin, Choice, ChoiceByA, ChoiceByB}
+use Rattle.watcher.proofs.Bits.{pick}
+use Rattle.watcher.proofs.Choice.{choice-exactly, no-choice, leaks-a, leaks-b}
 
 abbrev inner : Terms → Wire
 inner t = record { terms = t; outer = false }
@@ -48,10 +51,10 @@ abbrev needs : (Terms → ℕ → Bool) → List Wire → ℕ → Bool
 needs depends v i = some (λ w. depends (w .terms) i) v
 
 -- the shares on which the wires depend, one by one, serve as the choice where they are few enough
-own-shares : (notion : Notion) (n m : ℕ) (v : List Wire) → count (needs (dependsA n) v) (upTo n) ≤ allowed notion v
-    → count (needs (dependsB n) v) (upTo n) ≤ allowed notion v → Choice notion n m v
+own-shares : (mostA mostB n m : ℕ) (v : List Wire) → count (needs (dependsA n) v) (upTo n) ≤ mostA
+    → count (needs (dependsB n) v) (upTo n) ≤ mostB → ChoiceWithin mostA mostB n m v
 unfolding comes
-own-shares notion n m v a b = record {
+own-shares mostA mostB n m v a b = record {
   chosenA = needs (dependsA n) v;
   chosenB = needs (dependsB n) v;
   fewA = a;
@@ -115,29 +118,46 @@ pub mask-watched : let v = hidden ∷ outer-wire (justMask 0) ∷ [] in
     (allowed Sni v ≡ 1) × (Choice Sni 2 1 v → ⊥) × (allowed Ni v ≡ 2) × Choice Ni 2 1 v
 unfolding breaks countA masked upTo xor
 mask-watched =
-    let v = hidden ∷ outer-wire (justMask 0) ∷ [] in (refl, no-choice Sni 2 1 v refl, refl, own-shares Ni 2 1 v (le-refl 2) zero-le)
+    let v = hidden ∷ outer-wire (justMask 0) ∷ [] in (refl, no-choice Sni 2 1 v refl, refl, own-shares 2 2 2 1 v (le-refl 2) zero-le)
+
+-- the one smaller part of a single wire is the empty set
+part : (w : Wire) (n m : ℕ) (l : List Bool) → length (pick l (w ∷ [])) < 1 → breaks Ni n m (pick l (w ∷ [])) ≡ false
+part w n m l less = go (pick l (w ∷ [])) less
+  where
+    go : (s : List Wire) → length s < 1 → breaks Ni n m s ≡ false
+    go [] h = empty-breaks-nothing Ni n m
+    go (w ∷ s) h = let z : ⊥ = omega (arith, h) in absurd z
 
 -- a secret in the clear admits no choice of one share, be it a's or b's
 pub agreement-on-both : (Choice Ni 2 0 (inner secret ∷ []) → ⊥) × (Choice Ni 2 0 (inner (swap secret) ∷ []) → ⊥)
 unfolding breaks countA masked upTo xor
 agreement-on-both = (no-choice Ni 2 0 (inner secret ∷ []) refl, no-choice Ni 2 0 (inner (swap secret) ∷ []) refl)
 
+-- the secret of a leaks by a alone: all shares of b do not help, all of a do; and the other way round
+pub by-a : let v = inner secret ∷ [] in (ChoiceByA Ni 2 0 v → ⊥) × ChoiceByB Ni 2 0 v
+unfolding breaks countA masked upTo xor
+by-a = let v = inner secret ∷ [] in (leaks-a Ni 2 0 v refl (part (inner secret) 2 0) .0 (lit< tt), own-shares 2 1 2 0 v (le-refl 2) zero-le)
+
+pub by-b : let v = inner (swap secret) ∷ [] in (ChoiceByB Ni 2 0 v → ⊥) × ChoiceByA Ni 2 0 v
+unfolding breaks countA masked upTo xor
+by-b = let v = inner (swap secret) ∷ [] in (leaks-b Ni 2 0 v refl (part (inner (swap secret)) 2 0) .0 (lit< tt), own-shares 1 2 2 0 v zero-le (le-refl 2))
+
 -- an outer wire pays for its share under NI and not under SNI
 pub outer-pays-nothing : let v = outer-wire (justShare 0) ∷ [] in (Choice Sni 2 0 v → ⊥) × Choice Ni 2 0 v
 unfolding breaks countA masked upTo xor
-outer-pays-nothing = let v = outer-wire (justShare 0) ∷ [] in (no-choice Sni 2 0 v refl, own-shares Ni 2 0 v (le-refl 1) zero-le)
+outer-pays-nothing = let v = outer-wire (justShare 0) ∷ [] in (no-choice Sni 2 0 v refl, own-shares 1 1 2 0 v (le-refl 1) zero-le)
 
 -- one inner wire pays for a share of a and one of b
 pub product-watched : Choice Sni 2 0 (inner (justProduct 0 1) ∷ [])
 unfolding upTo
-product-watched = own-shares Sni 2 0 (inner (justProduct 0 1) ∷ []) (le-refl 1) (le-refl 1)
+product-watched = own-shares 1 1 2 0 (inner (justProduct 0 1) ∷ []) (le-refl 1) (le-refl 1)
 
 -- the secret, and an outer mask beside it that hides nothing: the set does not break, and still shows the secret
 pub broken-inside : let v = inner secret ∷ outer-wire (justMask 0) ∷ [] in (breaks Sni 2 1 v ≡ false) × (Choice Sni 2 1 v → ⊥)
 unfolding breaks countA masked bitLists upTo xor
 broken-inside =
     let v = inner secret ∷ outer-wire (justMask 0) ∷ [] in
-    (refl, λ c. let two : _≤_ 2 1 = choice-exactly Sni 2 1 v .0 c .0 in omega (arith, two))
+    (refl, λ c. let two : _≤_ 2 1 = choice-exactly 1 1 2 1 v .0 c .0 in omega (arith, two))
 
 -- nothing watched, nothing chosen
 pub empty-set : (notion : Notion) (n m : ℕ) → NoneChosen notion n m []

@@ -6,8 +6,10 @@
 --     equal p q           the two lists of bits are equal
 --     comes n m x v p     from how many mask settings pattern p comes under input x
 --     Agree               two inputs agree on chosen shares
---     Choice              shares of a and of b, no more of each than the notion allows the set, such that inputs that agree on them give every
---                         pattern from equally many mask settings
+--     ChoiceWithin        shares of a and of b, at most so many of each, such that inputs that agree on them give every pattern from equally many
+--                         mask settings
+--     Choice              no more of each than the notion allows the set
+--     ChoiceByA, ChoiceByB     no more of a, of b, than the notion allows the set, where every share of the other operand may be chosen
 use Prim.Native.Nat.{ℕ, zero, suc, _≤_, _<_}
 use mathlib.Core.Path.{_≡_}
 use mathlib.Core.Bool.{Bool, true, false, _&&_, xor, not}
@@ -44,9 +46,19 @@ pub record Agree (n : ℕ) (chosenA chosenB : ℕ → Bool) (x y : Input) : Type
   pub onB : (j : ℕ) → j < n → chosenB j ≡ true → x .ofB j ≡ y .ofB j
 
 -- the choice is made for the set, before the inputs and the pattern are known
-pub record Choice (notion : Notion) (n m : ℕ) (v : List Wire) : Type 0 where
+pub record ChoiceWithin (mostA mostB n m : ℕ) (v : List Wire) : Type 0 where
   pub chosenA : ℕ → Bool
   pub chosenB : ℕ → Bool
-  pub fewA : count chosenA (upTo n) ≤ allowed notion v
-  pub fewB : count chosenB (upTo n) ≤ allowed notion v
+  pub fewA : count chosenA (upTo n) ≤ mostA
+  pub fewB : count chosenB (upTo n) ≤ mostB
   pub blind : (x y : Input) → Agree n chosenA chosenB x y → (p : List Bool) → length p ≡ length v → comes n m x v p ≡ comes n m y v p
+
+abbrev pub Choice : Notion → ℕ → ℕ → List Wire → Type 0
+Choice notion n m v = ChoiceWithin (allowed notion v) (allowed notion v) n m v
+
+-- of the other operand all n shares may be chosen
+abbrev pub ChoiceByA : Notion → ℕ → ℕ → List Wire → Type 0
+ChoiceByA notion n m v = ChoiceWithin (allowed notion v) n n m v
+
+abbrev pub ChoiceByB : Notion → ℕ → ℕ → List Wire → Type 0
+ChoiceByB notion n m v = ChoiceWithin n (allowed notion v) n m v

@@ -2,6 +2,7 @@
 --     allowed-ni, allowed-sni      how many wires pay: all of them; the inner ones
 --     Breaks                       a set breaks a notion, as a statement
 --     breaks-exactly               the test passes exactly when it does
+--     breaks-counts                and so by the counts: no mask is left, and one of them is above what is allowed
 --     swapWire, breaks-swap        with the operands exchanged in every wire the test says the same
 --     empty-breaks-nothing         the empty set breaks nothing
 use Prim.Native.Nat.{ℕ, suc, _+_, _<_}
@@ -62,6 +63,14 @@ module _ (notion : Notion) (n m : ℕ) (s : List Wire) where
           go : (allowed notion s < countA n (total s)) ⊎ (allowed notion s < countB n (total s)) → (a || b) ≡ true
           go (inl p) = or-left a b (lt-ltb (allowed notion s) (countA n (total s)) p)
           go (inr p) = or-right a b (lt-ltb (allowed notion s) (countB n (total s)) p)
+
+  pub breaks-counts : (breaks notion n m s ≡ true)
+      ↔ ((masked m (total s) ≡ false) × ((allowed notion s < countA n (total s)) ⊎ (allowed notion s < countB n (total s))))
+  unfolding masked
+  breaks-counts = (
+    λ e. let h = breaks-exactly .0 e in (none-below m (total s .mask) (h .unmasked), h .exceeds),
+    λ h. breaks-exactly .1 (record { unmasked = λ k below. never m k (total s .mask) (h .0) below; exceeds = h .1 }),
+  )
 
 abbrev pub swapWire : Wire → Wire
 swapWire w = record { terms = swap (w .terms); outer = w .outer }

@@ -3,6 +3,7 @@
 --     rate                the bit by which the value changes with share i of a
 --     value-flip          the value of the input with that share changed
 --     seen                where terms depend on share i of a, some input makes the rate 1
+--     changed             a bit and the bit turned around are not the same
 --     depends-seen, depends-seen-b     where terms depend on a share of a, of b, one input shows it whatever the masks are
 --     depends-exactly     terms depend on share i of a exactly when two inputs that differ only there give them different values
 --     depends-exactly-b   the same for share j of b
@@ -104,7 +105,7 @@ seen n i t d = go (t .shareA i) refl
         let w = some-where n (t .product i) (some-row e) in
         (one-of-b (w .0), ap₂ xor (parity-one n (w .0) (t .product i) (w .1) ∙ w .2) e ∙ xor-false true)
 
-changed : (a : Bool) → a ≡ xor a true → ⊥
+pub changed : (a : Bool) → a ≡ xor a true → ⊥
 unfolding xor
 changed true e = true≢false e
 changed false e = false≢true e

@@ -5,6 +5,7 @@
 --     Function     the function check
 --     Narrow       bits of a record beyond the gadget's own
 --     Breaks       what the breaking test says
+--     Changes      what the counts of a set mean
 --     Examples     on two shares and one or two masks
 pub mod Value
 pub mod Dependence
@@ -12,4 +13,5 @@ pub mod Units
 pub mod Function
 pub mod Narrow
 pub mod Breaks
+pub mod Changes
 pub mod Examples

@@ -5,6 +5,7 @@
 --     parity-none, nothing, no-products      sums of bits that are all 0
 --     value-none, value-plus         the value of no terms; the value of a sum is the sum of the values
 --     value-total, sum-of-values     the sum of a list of wires has the sum of their values as its value
+--     value-shift                    the value under mask settings that are added
 --     value-swap                     with operands exchanged in terms and input the value is the same
 --     value-below                    terms with the same bits for the n shares and m masks have the same value
 --     value-agree                    inputs that agree on the shares on which terms depend give the same value
@@ -13,7 +14,7 @@ use mathlib.Core.Path.{_≡_, refl, sym, _∙_, ap, ap₂}
 use mathlib.Core.Bool.{Bool, true, false, _&&_, xor, and-comm}
 use mathlib.Core.List.{List}
 use Rattle.basics.specs.Folds.{parity, some, upTo}
-use Rattle.basics.proofs.Tests.{or-left, or-right, xor-false, false-xor, xor-comm, xor-assoc, xor-two, and-xor}
+use Rattle.basics.proofs.Tests.{or-left, or-right, xor-false, false-xor, xor-comm, xor-assoc, xor-two, and-xor, xor-and}
 use Rattle.basics.proofs.Folds.{fold-cong, fold-hom, fold-unit, fold-both, fold-exchange, fold-below, some-at}
 use Rattle.wires.specs.Wires.{Terms, Wire, Input, value, none, plus, total, SumOfValues, swap, swapInput, dependsA, dependsB}
 
@@ -147,3 +148,18 @@ module _ (n m : ℕ) (x y : Input) (r : ℕ → Bool) (t : Terms)
       (ap (λ (z : Bool). xor z (parity (λ k. t .mask k && r k) (upTo m)))
       (fold-below xor false n (λ j. t .shareB j && x .ofB j) (λ j. t .shareB j && y .ofB j)
       (λ j b. taken (t .shareB j) (x .ofB j) (y .ofB j) (λ p. agreeB j b (or-right (some (λ k. t .product k j) (upTo n)) (t .shareB j) p))))))
+
+pub value-shift : (n m : ℕ) (x : Input) (r d : ℕ → Bool) (t : Terms)
+    → value n m x (λ k. xor (r k) (d k)) t ≡ xor (value n m x r t) (parity (λ k. t .mask k && d k) (upTo m))
+unfolding value
+value-shift n m x r d t =
+    let p = parity (λ i. parity (λ j. t .product i j && (x .ofA i && x .ofB j)) (upTo n)) (upTo n) in
+    let a = parity (λ i. t .shareA i && x .ofA i) (upTo n) in
+    let b = parity (λ j. t .shareB j && x .ofB j) (upTo n) in
+    let k = parity (λ k. t .mask k && r k) (upTo m) in
+    let c = parity (λ k. t .mask k && d k) (upTo m) in
+    ap (λ (z : Bool). xor p (xor a (xor b z)))
+    (fold-cong xor false (λ k. t .mask k && xor (r k) (d k)) (λ k. xor (t .mask k && r k) (t .mask k && d k)) (upTo m)
+    (λ k. xor-and (t .mask k) (r k) (d k))
+    ∙ parity-both (λ k. t .mask k && r k) (λ k. t .mask k && d k) (upTo m))
+    ∙ ap (λ (z : Bool). xor p (xor a z)) (sym (xor-assoc b k c)) ∙ ap (xor p) (sym (xor-assoc a (xor b k) c)) ∙ sym (xor-assoc p (xor a (xor b k)) c)

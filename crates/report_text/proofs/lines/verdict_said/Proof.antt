@@ -24,32 +24,20 @@ write-text-requires c κs = search needs
 enum-known-answer : tie.Need-enum-known-answer
 enum-known-answer c = search needs
 
-slice-aggregate-write-text-2 : tie.Need-slice-aggregate-write-text-2
-slice-aggregate-write-text-2 c = search needs
+sub-broken-said : tie.Need-sub-broken-said
+sub-broken-said c = search needs
 
-write-text-requires-2 : tie.Need-write-text-requires-2
-write-text-requires-2 c κs = search needs
+part-broken-said-start : tie.Need-part-broken-said-start
+part-broken-said-start c = search needs
 
-sub-write-wires : tie.Need-sub-write-wires
-sub-write-wires c = search needs
-
-part-write-wires-start : tie.Need-part-write-wires-start
-part-write-wires-start c = search needs
-
-part-write-wires-end : tie.Need-part-write-wires-end
-part-write-wires-end c =
-    let few = shown-few _ _ _
-    (c .before .before .before .before .before .before .before .before .before .before .before .verdict .ensures .0) _ _ _ _ _ _
-    (c .before .before .before .before .before .before .before .before .answer .given .1)
-    (c .before .before .before .before .before .before .before .before .before .before .before .verdict .ensures .1 .1) in
+part-broken-said-end : tie.Need-part-broken-said-end
+part-broken-said-end c =
+    let few = shown-few _ _ _ _ _ _ _ _ (c .before .before .before .answer .given .1) (c .before .before .before .before .before .before .verdict .ensures .1 .1) in
     search needs
 
-write-wires-requires : tie.Need-write-wires-requires
-write-wires-requires c κs =
-    let few = shown-few _ _ _
-    (c .before .before .before .before .before .before .before .before .before .before .before .before .verdict .ensures .0) _ _ _ _ _ _
-    (c .before .before .before .before .before .before .before .before .before .answer .given .1)
-    (c .before .before .before .before .before .before .before .before .before .before .before .before .verdict .ensures .1 .1) in
+broken-said-requires : tie.Need-broken-said-requires
+broken-said-requires c κs =
+    let few = shown-few _ _ _ _ _ _ _ _ (c .before .before .before .before .answer .given .1) (c .before .before .before .before .before .before .before .verdict .ensures .1 .1) in
     search needs
 
 enum-known-answer-2 : tie.Need-enum-known-answer-2
@@ -71,8 +59,7 @@ returns : tie.Need-returns
 returns c =
     let a = c .before .before .before .before .before .before .before .before .before .before .before .before .args in
     let end = c .before .before .write-text .ensures in (
-      holds-said _ _ _ (c .before .before .before .before .before .before .before .before .verdict .ensures .0) (a .page .now) (a .at) _ _
-          (c .before .before .before .before .before .enum-told .given .1) (end .0),
+      holds-said _ _ _ _ (c .before .before .before .before .before .before .before .before .verdict .ensures .0) (a .page .now) (a .at) _ _ (c .before .before .before .before .before .enum-told .given .1) (end .0),
       omega (arith, end .1),
     )
 
@@ -81,18 +68,10 @@ same-length-2 c = search needs
 
 returns-2 : tie.Need-returns-2
 returns-2 c =
-    let a = c .before .before .before .before .before .before .before .before .before .before .before .before .before .before .before .before .before .before .before .args in
-    let next = c .before .before .before .before .before .before .before .before .write-text2 .ensures in
-    let end = c .before .before .write-wires .ensures in
-    let few = shown-few _ _ _
-    (c .before .before .before .before .before .before .before .before .before .before .before .before .before .before .before .verdict .ensures .0) _ _ _ _ _ _
-    (c .before .before .before .before .before .before .before .before .before .before .before .before .answer .given .1)
-    (c .before .before .before .before .before .before .before .before .before .before .before .before .before .before .before .verdict .ensures .1 .1) in (
-      broken-said _ _ _
-          (c .before .before .before .before .before .before .before .before .before .before .before .before .before .before .before .verdict .ensures .0)
-          (a .page .now) (a .at) _ _ _ _ _
-          (c .before .before .before .before .before .before .before .before .before .before .before .before .answer .given .1) (next .0)
-          (end .0),
+    let a = c .before .before .before .before .before .before .before .before .before .before .before .before .before .before .args in
+    let end = c .before .before .broken-said .ensures in
+    let few = shown-few _ _ _ _ _ _ _ _ (c .before .before .before .before .before .before .before .answer .given .1) (c .before .before .before .before .before .before .before .before .before .before .verdict .ensures .1 .1) in (
+      broken-said _ _ _ _ (c .before .before .before .before .before .before .before .before .before .before .verdict .ensures .0) (a .page .now) (a .at) _ _ _ (c .before .before .before .before .before .before .before .answer .given .1) (end .0),
       search needs,
     )
 
@@ -103,9 +82,8 @@ returns-3 : tie.Need-returns-3
 returns-3 c =
     let a = c .before .before .before .before .before .before .before .before .before .before .before .before .before .before .args in
     let end = c .before .before .write-named .ensures in (
-      refused-said _ _ _ (c .before .before .before .before .before .before .before .before .before .before .verdict .ensures .0) (a .page .now)
-          (a .at) _ _ _ _ (c .before .before .before .before .before .before .before .answer2 .given .1) (c .before .before .before .number .ensures)
-          (end .0),
+      refused-said _ _ _ _ (c .before .before .before .before .before .before .before .before .before .before .verdict .ensures .0) (a .page .now) (a .at) _ _ _ _ (c .before .before .before .before .before .before .before .answer2 .given .1)
+          (c .before .before .before .number .ensures) (end .0),
       omega (arith, end .1),
     )
 
@@ -119,12 +97,10 @@ verdict-said-spec =
     slice-aggregate-write-text
     write-text-requires
     enum-known-answer
-    slice-aggregate-write-text-2
-    write-text-requires-2
-    sub-write-wires
-    part-write-wires-start
-    part-write-wires-end
-    write-wires-requires
+    sub-broken-said
+    part-broken-said-start
+    part-broken-said-end
+    broken-said-requires
     enum-known-answer-2
     slice-aggregate-write-named
     number-requires

@@ -1,0 +1,84 @@
+-- What the counts of a set mean: its values' sum changes with just the shares that are counted, and with a mask exactly where one is left.
+--     sum-is            the sum of the values of wires is the value of their sum
+--     mask-exactly      a mask is left exactly when the value changes with some mask
+--     set-depends       the counts of a set, and what the notion allows it
+use Prim.Native.Nat.{ℕ, _<_}
+use mathlib.Core.Path.{_≡_, refl, sym, _∙_, ap}
+use mathlib.Core.Logic.{_↔_}
+use mathlib.Core.Bool.{Bool, true, false, xor}
+use mathlib.Core.List.{List}
+use lib.Dec.{eqb}
+use Rattle.basics.proofs.Tests.{xor-false}
+use Rattle.basics.proofs.Folds.{some-where, some-at}
+use Rattle.wires.specs.declared.Notion.{Notion}
+use Rattle.wires.specs.Wires.{Wire, Input, value, total, flipA, flipB, dependsA, dependsB, countA, countB, masked, allowed}
+use Rattle.wires.specs.Dependence.{sumShown, ChangesWithA, ChangesWithB, ChangesWithMask, SetDepends}
+use Rattle.wires.proofs.Value.{value-total, value-shift}
+use Rattle.wires.proofs.Dependence.{parity-one, changed, depends-exactly, depends-exactly-b}
+use Rattle.wires.proofs.Breaks.{allowed-ni}
+
+module _ (n m : ℕ) (v : List Wire) where
+  pub sum-is : (x : Input) (r : ℕ → Bool) → sumShown n m x r v ≡ value n m x r (total v)
+  sum-is x r = sym (value-total n m x r v)
+
+  -- the sum changes where the value of the total does
+  apart : (x y : Input) (r s : ℕ → Bool) → (value n m x r (total v) ≡ value n m y s (total v) → ⊥) ↔ (sumShown n m x r v ≡ sumShown n m y s v → ⊥)
+  apart x y r s = (λ h e. h (sym (sum-is x r) ∙ e ∙ sum-is y s), λ h e. h (sum-is x r ∙ e ∙ sym (sum-is y s)))
+
+  abbrev with-mask : (ℕ → Bool) → ℕ → ℕ → Bool
+  with-mask r k i = xor (r i) (eqb i k)
+
+  shifted : (x : Input) (r : ℕ → Bool) (k : ℕ) → k < m → value n m x (with-mask r k) (total v) ≡ xor (value n m x r (total v)) (total v .mask k)
+  shifted x r k below =
+      value-shift n m x r (λ i. eqb i k) (total v) ∙ ap (xor (value n m x r (total v))) (parity-one m k (total v .mask) below)
+
+  pub mask-exactly : (masked m (total v) ≡ true) ↔ ((k : ℕ) × (k < m) × ChangesWithMask n m v k)
+  unfolding masked
+  mask-exactly = (there, λ w. some-at m (w .0) (total v .mask) (w .1) (back (w .0) (w .1) (w .2) (total v .mask (w .0)) refl))
+    where
+      zeros : Input
+      zeros = record { ofA = λ i. false; ofB = λ j. false }
+
+      there : masked m (total v) ≡ true → (k : ℕ) × (k < m) × ChangesWithMask n m v k
+      there e =
+          let w = some-where m (total v .mask) e in
+          let r : ℕ → Bool = λ i. false in (
+            w .0,
+            w .1,
+            (
+              zeros,
+              r,
+              apart zeros zeros r (with-mask r (w .0)) .0
+                  (λ same. changed (value n m zeros r (total v)) (same ∙ shifted zeros r (w .0) (w .1) ∙ ap (xor (value n m zeros r (total v))) (w .2))),
+            ),
+          )
+
+      back : (k : ℕ) → k < m → ChangesWithMask n m v k → (b : Bool) → total v .mask k ≡ b → b ≡ true
+      back k below c true e = refl
+      back k below c false e =
+          absurd (apart (c .0) (c .0) (c .1) (with-mask (c .1) k) .1 (c .2)
+          (sym (shifted (c .0) (c .1) k below ∙ ap (xor (value n m (c .0) (c .1) (total v))) e ∙ xor-false (value n m (c .0) (c .1) (total v)))))
+
+  pub set-depends : (notion : Notion) → SetDepends notion n m v (countA n (total v)) (countB n (total v)) (allowed notion v) (masked m (total v))
+  unfolding countA
+  set-depends notion = record {
+    shares-of-a = record { test = dependsA n (total v); exactly = of-a; counted = refl };
+    shares-of-b = record { test = dependsB n (total v); exactly = of-b; counted = refl };
+    mask-left = mask-exactly;
+    allowed-ni = λ e. ap (λ (k : Notion). allowed k v) e ∙ allowed-ni v;
+    allowed-sni = λ e. ap (λ (k : Notion). allowed k v) e;
+  }
+    where
+      of-a : (i : ℕ) → i < n → (dependsA n (total v) i ≡ true) ↔ ChangesWithA n m v i
+      of-a i below =
+          let exactly = depends-exactly n m i (total v) below in (
+            λ d. let w = exactly .0 d in (w .0, w .1, apart (w .0) (flipA i (w .0)) (w .1) (w .1) .0 (w .2)),
+            λ c. exactly .1 (c .0, c .1, apart (c .0) (flipA i (c .0)) (c .1) (c .1) .1 (c .2)),
+          )
+
+      of-b : (j : ℕ) → j < n → (dependsB n (total v) j ≡ true) ↔ ChangesWithB n m v j
+      of-b j below =
+          let exactly = depends-exactly-b n m j (total v) below in (
+            λ d. let w = exactly .0 d in (w .0, w .1, apart (w .0) (flipB j (w .0)) (w .1) (w .1) .0 (w .2)),
+            λ c. exactly .1 (c .0, c .1, apart (c .0) (flipB j (c .0)) (c .1) (c .1) .1 (c .2)),
+          )
