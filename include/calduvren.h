@@ -5,8 +5,8 @@
  *
  * A gadget computes on two operands, a and b, each a secret bit split into shares, and adds random bits, the masks.
  * A watcher reads a few of its wires. The functions below read a gadget's description into a table of its wires, check
- * its function, say whether it is NI and SNI at an order and show the first breaking set, number the sets of wires and
- * divide the search over machines.
+ * its function, say whether it is NI and SNI at an order and show the first breaking set, tell which operand a set gives
+ * away, number the sets of wires and divide the search over machines.
  *
  * Breaking sets
  *
@@ -62,12 +62,12 @@ extern "C" {
 #endif
 
 /*
- * The version, for #if: major * 10000 + minor * 100 + patch, so 10000 is 1.0.0. A version that adds a function raises
+ * The version, for #if: major * 10000 + minor * 100 + patch, so 20000 is 2.0.0. A version that adds a function raises
  * the minor number, one that changes what a call with the same arguments answers raises the major one, and any other
  * the patch. Header and library belong together: the library tells no version of its own, so keep it with the header
  * that it came with.
  */
-#define CALDUVREN_VERSION 10000
+#define CALDUVREN_VERSION 20000
 
 #define CALDUVREN_MAX_TEXT_BYTES 4096
 #define CALDUVREN_RECORD_BYTES 24
@@ -239,6 +239,29 @@ calduvren_status calduvren_range_check(const uint8_t *table, size_t table_length
                                        uint64_t *clean, size_t *found, uint64_t *rank);
 
 /*
+ * Which operand leaks: on how many shares of a, and on how many of b, the sum of a set's records depends, how many of
+ * each the notion allows the set, and whether a mask is left in the sum. The set is any of up to 7 wires of the table,
+ * also the empty one. It breaks the notion exactly where masked is 0 and of_a or of_b is above allowed.
+ *
+ * After a verdict that is broken, or a range check that is not clean, call it with the set shown and its size: an
+ * operand leaks whose count is above allowed, one of the two or both. For such a set masked is 0.
+ *
+ * Written: of_a and of_b, also where a mask is left; allowed, which is how many wires the set has (for SNI, inner
+ * wires); masked, 1 or 0.
+ *
+ * Refusals:
+ *   11  shares not 2 to 8, or masks over 64
+ *   12  table_length no multiple of 24, or over 12,288
+ *   13  a record with a bit beyond shares or masks, or byte 18 over 1
+ *   14  notion not 1 or 2
+ *   17  set_length over 7
+ *   21  wire numbers not strictly rising, or one beyond the table
+ */
+calduvren_status calduvren_set_dependence(const uint8_t *table, size_t table_length, size_t shares, size_t masks,
+                                          size_t notion, const uint16_t *set, size_t set_length,
+                                          size_t *of_a, size_t *of_b, size_t *allowed, uint64_t *masked);
+
+/*
  * How many sets of `size` out of `wires` wires there are; 0 where the size is above the wires.
  *
  * Written: sets.
@@ -291,8 +314,10 @@ calduvren_status calduvren_job(size_t wires, size_t size, uint64_t job, uint64_t
 
 /*
  * The report on a description text: what was read, its function and both verdicts at its order, in lines that end in
- * byte 10. A text that calduvren_read_text turns down, a table of CALDUVREN_MAX_TABLE_BYTES lent, has a report too, with
- * status 0: one line, as `refused 7 at 31`.
+ * byte 10. That of a verdict is as `NI holds`, or as `NI broken 6 by both`: the wires of the first breaking set, and
+ * ` by a`, ` by b` or ` by both` for the operands that leak (calduvren_set_dependence has the counts). A text that
+ * calduvren_read_text turns down, a table of CALDUVREN_MAX_TABLE_BYTES lent, has a report too, with status 0: one line,
+ * as `refused 7 at 31`.
  *
  * Written: length, and the report's bytes in the first `length` bytes of buffer. No byte 0 follows them. A buffer of
  * CALDUVREN_MAX_REPORT_BYTES is always long enough.

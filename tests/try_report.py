@@ -5,9 +5,9 @@ usage: try_report.py data crates/try_report/data     try_report.py answers > cra
        try_report.py errors     try_report.py counts     try_report.py halves
 
 A text is read by try_reader.py. A set's records are added on the way through the revolving-door order, as numbers, and judged by the counts
-of try_verdict.py; the function is told from the sum of the outer records. `answers` goes over small texts again: the first breaking set as
-try_verdict.py finds it, whether `halves` finds one, what a watcher of each set learns, and the function by trying all values as try_table.py
-does; it tells on standard error how many. `errors` runs programs that err as those of the scope's "Errors that have been sold", each on a
+of try_verdict.py; the function is told from the sum of the outer records. `answers` goes over small texts again: the first breaking set and
+the operands that leak as try_verdict.py finds them, whether `halves` finds one, what a watcher of each set learns, also where he knows all of
+one operand, and the function by trying all values as try_table.py does; it tells on standard error how many. `errors` runs programs that err as those of the scope's "Errors that have been sold", each on a
 text of the data, and prints the lines in which the true report and the wrong one differ. `counts` tells how many texts there are of each
 answer, and how many sets are looked at. `halves` tells by a quicker search whether SNI holds for the gadgets but the largest.
 """
@@ -61,6 +61,11 @@ def function_name(records, shares):
     return "other"
 
 
+def broken(name, chosen, leaking):
+    """The line of a break, by the set's wires and the operands that leak."""
+    return " ".join([name, "broken", *map(str, chosen), "by", "both" if len(leaking) == 2 else leaking[0]])
+
+
 class Judge:
     """Reports as the scope has them. A program that errs does one of these things otherwise."""
 
@@ -73,10 +78,16 @@ class Judge:
         return range(1, order + 1)
 
     def breaks(self, records, chosen, total, notion):
-        return self.exceeds(verdicts.dependence(total.to_bytes(SUMMED, "little")), verdicts.paying(records, chosen, notion))
+        return bool(self.leaking(records, chosen, total, notion))
 
-    def exceeds(self, counts, allowed):
-        return counts is not None and max(counts) > allowed
+    def leaking(self, records, chosen, total, notion):
+        """The operands by which a set breaks the notion."""
+        counts = verdicts.dependence(total.to_bytes(SUMMED, "little"))
+        allowed = verdicts.paying(records, chosen, notion)
+        return [] if counts is None else [name for name, count in zip("ab", self.compared(*counts)) if count > allowed]
+
+    def compared(self, of_a, of_b):
+        return of_a, of_b
 
     def first_breaking(self, records, notion, order):
         words = words_of(records)
@@ -84,7 +95,7 @@ class Judge:
             for chosen, total in walk(words, len(words), size):
                 self.looked += 1
                 if not total & MASK_BITS and self.breaks(records, chosen, total, notion):
-                    return chosen
+                    return chosen, self.leaking(records, chosen, total, notion)
         return None
 
     def report(self, text):
@@ -98,7 +109,7 @@ class Judge:
         yield "function " + function_name(records, answer.shares)
         for notion, name in (NI, "NI"), (SNI, "SNI"):
             found = self.first_breaking(records, notion, answer.order)
-            yield name + " holds" if found is None else " ".join([name, "broken", *map(str, found)])
+            yield name + " holds" if found is None else broken(name, *found)
 
     def told(self, text):
         """What the program prints after the text's name."""
@@ -111,15 +122,15 @@ class Judge:
 class AddsCounts(Judge):
     """Adds a's and b's counts."""
 
-    def exceeds(self, counts, allowed):
-        return counts is not None and sum(counts) > allowed
+    def compared(self, of_a, of_b):
+        return of_a + of_b, of_a + of_b
 
 
 class CountsOuter(Judge):
     """Counts an outer wire under SNI."""
 
-    def breaks(self, records, chosen, total, notion):
-        return super().breaks(records, chosen, total, NI)
+    def leaking(self, records, chosen, total, notion):
+        return super().leaking(records, chosen, total, NI)
 
 
 class OneSize(Judge):
@@ -139,10 +150,10 @@ class FirstSize(Judge):
 class KeepsShares(Judge):
     """Takes a share as seen when a set's wires use it twice and the two uses cancel."""
 
-    def breaks(self, records, chosen, total, notion):
+    def leaking(self, records, chosen, total, notion):
         for word in words_of(records[w] for w in chosen):
             total |= word & ~MASK_BITS
-        return super().breaks(records, chosen, total, notion)
+        return super().leaking(records, chosen, total, notion)
 
 
 class SkipsSums(Judge):
@@ -229,7 +240,8 @@ def gadget_files():
     expected = {"isw-%d" % order: written(order, *isw(order)) for order in range(1, 5)}
     expected |= {"order-2-example": readings.ORDER_TWO, "figure-8": readings.gadget(readings.FIGURE_8), "figure-9": figure_9}
     expected["figure-9-shares"] = re.sub(rb"s([0-7])\1", rb"a\1", figure_9)
-    assert {path.stem: path.read_bytes() for path in GADGETS.glob("*.txt")} == expected and expected["isw-1"] == readings.TEXT_A
+    others = {"leak-1": readings.TEXT_B, "sum-1": readings.TEXT_C}  # the scope's, which are among its texts
+    assert {path.stem: path.read_bytes() for path in GADGETS.glob("*.txt")} == expected | others and expected["isw-1"] == readings.TEXT_A
     for name, text in expected.items():
         yield "function" if name.startswith("figure") else "report", name, text
 
@@ -380,7 +392,7 @@ def drawn():
         if draw.random() < 0.4:
             one, two = (b"r%d" % draw.choice(list(masks)) for _ in range(2))
             text = head(order, masks) + text[len(head(order, masks)) :].replace(one, two, draw.choice([1, 2]))
-        answers = tuple(re.sub("[0-9]+", "", line) if line[0] != "o" else line[:7] for line in Judge().report(text))
+        answers = tuple(re.sub("[0-9]+| by .*", "", line) if line[0] != "o" else line[:7] for line in Judge().report(text))
         quota[answers] += 1
         if quota[answers] <= 2:
             yield "drawn-%03d" % n, text
@@ -421,7 +433,7 @@ class Again:
             self.counts["reports by listing all sets and by halves"] += 1
             for notion, name, line in (NI, "NI", told[2]), (SNI, "SNI", told[3]):
                 found = verdicts.first_breaking(records, notion, answer.order)
-                assert line == (name + " holds" if found is None else name + " broken " + " ".join(map(str, found)))
+                assert line == (name + " holds" if found is None else broken(name, found, verdicts.leaking_by(records, found, notion)))
             assert (breaking_by_halves(text.bytes) is None) == (told[3] == "SNI holds")
         if answer.shares <= 3 and answer.wires <= 14 and answer.masks <= 4:
             self.counts["tables by watching"] += 1
@@ -460,8 +472,8 @@ def examples():
         assert [chosen for chosen, _ in walk([0] * n, n, k)] == verdicts.revolving(n, k)
     report = lambda text: list(Judge().report(text))
     assert report(readings.TEXT_A) == ["order 1 shares 2 masks 1 wires 9", "function product", "NI holds", "SNI holds"]
-    assert report(readings.TEXT_B)[1:] == ["function product", "NI broken 6", "SNI broken 6"]
-    assert report(readings.TEXT_C)[1:] == ["function sum", "NI holds", "SNI broken 2"]
+    assert report(readings.TEXT_B)[1:] == ["function product", "NI broken 6 by both", "SNI broken 6 by both"]
+    assert report(readings.TEXT_C)[1:] == ["function sum", "NI holds", "SNI broken 2 by both"]
     assert report(b"") == ["refused 2 at 0"] and report(head(1) + b"()\na0\n") == ["refused 6 at %d" % (len(head(1)) + 1)]
 
 
@@ -493,7 +505,7 @@ def print_errors():
 def without_numbers(line):
     """A refusal without its offset, a break with its size for its wires."""
     words = line.split(" at ")[0].split()
-    return " ".join([*words[:2], "at size %d" % (len(words) - 2)] if words[1] == "broken" else words)
+    return " ".join([*words[:2], "at size %d" % (len(words) - 4), *words[-2:]] if words[1] == "broken" else words)
 
 
 def print_counts():

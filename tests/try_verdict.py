@@ -125,6 +125,12 @@ def breaks(records, chosen, notion):
     return counts is not None and max(counts) > paying(records, chosen, notion)
 
 
+def leaking_by(records, chosen, notion):
+    """The operands whose count exceeds what the notion allows a set without a mask."""
+    allowed = paying(records, chosen, notion)
+    return [name for name, count in zip("ab", dependence(added(records, chosen))) if count > allowed]
+
+
 def records_of(table):
     return [table[k : k + RECORD] for k in range(0, len(table), RECORD)]
 
@@ -170,15 +176,20 @@ class Watcher:
         groups = {}
         return all(groups.setdefault(x & mask, what) == what for x, what in zip(self.bits, seen))
 
-    def has_choice(self, chosen, allowed):
-        """Whether shares of a and of b can be chosen for a set, so many of each at most. More shares never harm, so the largest choices are tried."""
+    def has_choice(self, chosen, most_of_a, most_of_b):
+        """Whether shares of a and of b can be chosen for a set, so many at most. More shares never harm, so the largest choices are tried."""
         seen = [pattern_counts(tuple(row[w] for w in chosen), self.settings) for row in self.columns]
-        some = lambda count: [sum(1 << k for k in c) for c in itertools.combinations(range(count), min(allowed, count))]
-        for on_a, on_b in itertools.product(some(self.of_a), some(self.of_b)):
+        some = lambda count, most: [sum(1 << k for k in c) for c in itertools.combinations(range(count), min(most, count))]
+        for on_a, on_b in itertools.product(some(self.of_a, most_of_a), some(self.of_b, most_of_b)):
             self.tried += 1
             if self.same(seen, on_a | on_b << self.of_a):
                 return True
         return False
+
+    def leaking(self, chosen, allowed):
+        """The operands for which no choice will do, though every share of the other may be chosen: those by which a set breaks, where no part does."""
+        most = {"a": (allowed, self.of_b), "b": (self.of_a, allowed)}
+        return [name for name in "ab" if not self.has_choice(chosen, *most[name])]
 
 
 class Compared:
@@ -194,8 +205,8 @@ class Compared:
         for notion in (NI, SNI):
             broken, choice = set(), {}
             for chosen in itertools.chain(*(itertools.combinations(range(len(wires)), size) for size in range(shares))):
-                inner = sum(not wires[w].outer for w in chosen)
-                choice[chosen] = watcher.has_choice(chosen, len(chosen) if notion == NI else inner)
+                allowed = len(chosen) if notion == NI else sum(not wires[w].outer for w in chosen)
+                choice[chosen] = watcher.has_choice(chosen, allowed, allowed)
                 if breaks(records, chosen, notion):
                     broken.add(chosen)
                     assert not choice[chosen]
@@ -203,10 +214,10 @@ class Compared:
                     assert choice[chosen]
             self.sets += len(choice)
             for order in range(1, shares):
-                self.order(records, shares, notion, order, broken, choice)
+                self.order(records, shares, notion, order, broken, choice, watcher)
         self.tried += watcher.tried
 
-    def order(self, records, shares, notion, order, broken, choice):
+    def order(self, records, shares, notion, order, broken, choice, watcher):
         within = {chosen for chosen in choice if len(chosen) <= order}
         holds = all(choice[chosen] for chosen in within)
         first = first_breaking(records, notion, order)
@@ -216,8 +227,9 @@ class Compared:
             return
         assert not choice[first]
         self.met["size", len(first)] += 1
-        count = paying(records, first, notion)
-        self.met["through", "".join(name for name, shares in zip("ab", dependence(added(records, first))) if shares > count)] += 1
+        leaking = leaking_by(records, first, notion)
+        assert leaking == watcher.leaking(first, paying(records, first, notion))
+        self.met["through", "".join(leaking)] += 1
         same_size = sorted(chosen for chosen in broken if len(chosen) == len(first))
         self.met["first set is the first by wire numbers too", first == same_size[0]] += 1
         self.met["first set has the lowest wire of all", min(first) == min(map(min, same_size))] += 1

@@ -1,6 +1,7 @@
 /*
- * The NI and SNI verdicts on a description file, at its own order. Below a broken one stand the wires of the first
- * breaking set, each with the part of the file that computes it.
+ * The NI and SNI verdicts on a description file, at its own order. A broken one names the operand that leaks, or both.
+ * Below it stand the wires of the first breaking set, each with the part of the file that computes it, and on how many
+ * shares their sum depends.
  *
  * build: gcc -O2 -I include clients/c/verdicts.c -L target/staticlib -lcalduvren -o target/verdicts
  *        (in the repository's root; `rt staticlib calduvren` writes the library)
@@ -31,17 +32,24 @@ static void expect_answer(calduvren_status status)
 static void print_verdict(const struct gadget *g, const char *name, size_t notion)
 {
     uint16_t set[CALDUVREN_MAX_ORDER];
-    uint64_t holds = 0;
-    size_t size = 0; /* stays 0 where the verdict holds */
+    uint64_t holds = 0, masked = 1; /* masked is 0 for every set that a verdict shows */
+    size_t size = 0, of_a = 0, of_b = 0, allowed = 0;
     expect_answer(calduvren_verdict(g->table, g->table_length, g->shares, g->masks, notion, g->order,
                                     set, CALDUVREN_MAX_ORDER, &holds, &size));
-    printf("%s %s\n", name, holds ? "holds" : "broken");
+    if (holds) {
+        printf("%s holds\n", name);
+        return;
+    }
+    expect_answer(calduvren_set_dependence(g->table, g->table_length, g->shares, g->masks, notion, set, size,
+                                           &of_a, &of_b, &allowed, &masked));
+    printf("%s broken by %s\n", name, of_b <= allowed ? "a" : of_a <= allowed ? "b" : "both");
     for (size_t i = 0; i < size; i++) {
         size_t offset = 0, length = 0;
         expect_answer(calduvren_text_part(g->text, g->text_length, g->table, g->table_length, set[i],
                                           &offset, &length));
         printf("  wire %u: %.*s\n", (unsigned)set[i], (int)length, (const char *)g->text + offset);
     }
+    printf("  depends on %zu of a's shares and %zu of b's, %zu of each allowed\n", of_a, of_b, allowed);
 }
 
 int main(int argument_count, char **arguments)

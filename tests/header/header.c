@@ -25,8 +25,8 @@
 
 /* All that a call may write. Before each call every byte of it is UNTOUCHED. */
 struct answer {
-    size_t order, shares, masks, wires, offset, length, size;
-    uint64_t yes, holds, clean, rank, sets, from, to;
+    size_t order, shares, masks, wires, offset, length, size, of_a, of_b, allowed;
+    uint64_t yes, holds, clean, rank, sets, from, to, masked;
     uint16_t set[CALDUVREN_MAX_SIZE + 1];
     uint8_t table[CALDUVREN_MAX_TABLE_BYTES];
     uint8_t buffer[CALDUVREN_MAX_REPORT_BYTES];
@@ -246,6 +246,51 @@ static void range_check(void)
     REFUSES(RANGE(sizeof table_b, 2, 1, CALDUVREN_NI, 1, 7, 10, 1), RANKS);
 }
 
+#define DEPENDS(table, table_length, shares, masks, notion, set, set_length) \
+    calduvren_set_dependence(table, table_length, shares, masks, notion, set, set_length, \
+                             &lent.of_a, &lent.of_b, &lent.allowed, &lent.masked)
+
+static void want_dependence(size_t of_a, size_t of_b, size_t allowed, uint64_t masked)
+{
+    wanted.of_a = of_a;
+    wanted.of_b = of_b;
+    wanted.allowed = allowed;
+    wanted.masked = masked;
+}
+
+static void set_dependence(void)
+{
+    static const uint16_t leak[] = {6}, output[] = {2}, b_alone[] = {0, 4}, falling[] = {4, 0}, beyond[] = {0, 9};
+    static const uint16_t outputs[] = {2, 8};
+    static const uint16_t eight[] = {0, 1, 2, 3, 4, 5, 6, 7};
+    want_dependence(2, 2, 1, 0); /* the scope's text B: NI broken 6 by both, and SNI too */
+    ANSWERS(DEPENDS(table_b, sizeof table_b, 2, 1, CALDUVREN_NI, leak, 1));
+    want_dependence(2, 2, 1, 0);
+    ANSWERS(DEPENDS(table_b, sizeof table_b, 2, 1, CALDUVREN_SNI, leak, 1));
+    want_dependence(1, 1, 1, 0); /* text C: NI holds, SNI broken 2 by both */
+    ANSWERS(DEPENDS(table_c, sizeof table_c, 2, 0, CALDUVREN_NI, output, 1));
+    want_dependence(1, 1, 0, 0);
+    ANSWERS(DEPENDS(table_c, sizeof table_c, 2, 0, CALDUVREN_SNI, output, 1));
+    want_dependence(1, 1, 0, 1); /* s00 r0 */
+    ANSWERS(DEPENDS(table_b, sizeof table_b, 2, 1, CALDUVREN_SNI, output, 1));
+    want_dependence(1, 2, 2, 0); /* s00 and s01 */
+    ANSWERS(DEPENDS(table_a, sizeof table_a, 2, 1, CALDUVREN_SNI, b_alone, 2));
+    want_dependence(2, 2, 2, 0); /* both outputs: their mask cancels */
+    ANSWERS(DEPENDS(table_a, sizeof table_a, 2, 1, CALDUVREN_NI, outputs, 2));
+    want_dependence(1, 1, 6, 0); /* of seven wires, one of them outer: all but s11 cancels */
+    ANSWERS(DEPENDS(table_b, sizeof table_b, 2, 1, CALDUVREN_SNI, eight, CALDUVREN_MAX_SIZE));
+    want_dependence(0, 0, 0, 0); /* the empty set breaks nothing */
+    ANSWERS(DEPENDS(table_b, sizeof table_b, 2, 1, CALDUVREN_NI, leak, 0));
+    REFUSES(DEPENDS(table_b, sizeof table_b, 1, 1, CALDUVREN_NI, leak, 1), SHARES_OR_MASKS);
+    REFUSES(DEPENDS(table_b, sizeof table_b, 2, 65, CALDUVREN_NI, leak, 1), SHARES_OR_MASKS);
+    REFUSES(DEPENDS(table_b, sizeof table_b - 1, 2, 1, CALDUVREN_NI, leak, 1), TABLE_LENGTH);
+    REFUSES(DEPENDS(table_b, sizeof table_b, 2, 0, CALDUVREN_NI, leak, 1), RECORD);
+    REFUSES(DEPENDS(table_b, sizeof table_b, 2, 1, 3, leak, 1), NOTION);
+    REFUSES(DEPENDS(table_b, sizeof table_b, 2, 1, CALDUVREN_NI, eight, CALDUVREN_MAX_SIZE + 1), SIZE);
+    REFUSES(DEPENDS(table_b, sizeof table_b, 2, 1, CALDUVREN_NI, falling, 2), WIRE_NUMBERS);
+    REFUSES(DEPENDS(table_b, sizeof table_b, 2, 1, CALDUVREN_NI, beyond, 2), WIRE_NUMBERS);
+}
+
 static void numbering(void)
 {
     static const uint16_t pair[] = {1, 2};
@@ -305,6 +350,8 @@ static void no_elements(void)
     REFUSES(READ(&none, 0, 0), FIRST_LINE);
     wanted.holds = 1; /* a table of no wires */
     ANSWERS(JUDGE(&none, 0, 2, 0, CALDUVREN_SNI, 1, 1));
+    want_dependence(0, 0, 0, 0);
+    ANSWERS(DEPENDS(&none, 0, 2, 0, CALDUVREN_SNI, &no_wire, 0));
     ANSWERS(calduvren_set_from_rank(24, 0, 0, &no_wire, 0));
     wanted.rank = 0;
     ANSWERS(calduvren_rank_from_set(24, &no_wire, 0, &lent.rank));
@@ -338,6 +385,7 @@ int main(void)
     function_check();
     verdict();
     range_check();
+    set_dependence();
     numbering();
     job();
     no_elements();

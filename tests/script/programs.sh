@@ -76,14 +76,16 @@ holds="$read_one
 NI holds
 SNI holds"
 broken="$read_one
-NI broken 6
-SNI broken 6"
+NI broken 6 by both
+SNI broken 6 by both"
 parts='report: NI is broken*
     wire 6, line 4*: s01 s10
     together: s01 s10
+    depends on 2 of a?s shares and 2 of b?s, 1 of each allowed
 report: SNI is broken*
     wire 6, line 4*: s01 s10
-    together: s01 s10'
+    together: s01 s10
+    depends on 2 of a?s shares and 2 of b?s, 1 of each allowed'
 why_bar='report: line 3, byte 5: *
     s00 | r0
         ^'

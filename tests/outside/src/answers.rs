@@ -1,6 +1,6 @@
 //! The entries and their answers: all that the scope gives each of them, and all of it has to be reached in a run.
 
-/// The ten entries, in the header's order.
+/// The eleven entries, in the header's order.
 #[derive(Clone, Copy, PartialEq, Eq, PartialOrd, Ord, Debug)]
 pub enum Entry {
     ReadText,
@@ -8,6 +8,7 @@ pub enum Entry {
     FunctionCheck,
     Verdict,
     RangeCheck,
+    SetDependence,
     SetCount,
     SetFromRank,
     RankFromSet,
@@ -20,7 +21,7 @@ pub type Answer = (u64, &'static str);
 
 /// The entries with their names and every answer that has to be reached, which is every one that the scope gives them.
 /// The refusals stand in the order in which they are tested; the header has to list them so too.
-pub const REQUIRED: [(Entry, &str, &[Answer]); 10] = [
+pub const REQUIRED: [(Entry, &str, &[Answer]); 11] = [
     (
         Entry::ReadText,
         "read_text",
@@ -88,6 +89,23 @@ pub const REQUIRED: [(Entry, &str, &[Answer]); 10] = [
             (17, ""),
             (16, ""),
             (18, ""),
+        ],
+    ),
+    (
+        Entry::SetDependence,
+        "set_dependence",
+        &[
+            (0, "breaks by a"),
+            (0, "by b"),
+            (0, "by both"),
+            (0, "breaks nothing"),
+            (0, "masked"),
+            (11, ""),
+            (12, ""),
+            (13, ""),
+            (14, ""),
+            (17, ""),
+            (21, ""),
         ],
     ),
     (Entry::SetCount, "set_count", &[(0, "answered"), (12, ""), (17, "")]),

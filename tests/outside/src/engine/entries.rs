@@ -56,6 +56,19 @@ extern "C" {
         found: *mut usize,
         rank: *mut u64,
     ) -> u64;
+    pub fn calduvren_set_dependence(
+        table: *const u8,
+        table_length: usize,
+        shares: usize,
+        masks: usize,
+        notion: usize,
+        set: *const u16,
+        set_length: usize,
+        of_a: *mut usize,
+        of_b: *mut usize,
+        allowed: *mut usize,
+        masked: *mut u64,
+    ) -> u64;
     pub fn calduvren_set_count(wires: usize, size: usize, sets: *mut u64) -> u64;
     pub fn calduvren_set_from_rank(wires: usize, size: usize, rank: u64, set: *mut u16, set_length: usize) -> u64;
     pub fn calduvren_rank_from_set(wires: usize, set: *const u16, set_length: usize, rank: *mut u64) -> u64;

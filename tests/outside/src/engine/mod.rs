@@ -1,4 +1,4 @@
-//! The engine under test: the ten functions of include/calduvren.h, each behind a safe wrapper that lends guarded
+//! The engine under test: the eleven functions of include/calduvren.h, each behind a safe wrapper that lends guarded
 //! memory and gives back what the call left there.
 
 mod entries;
@@ -91,6 +91,22 @@ pub fn range_check(table: &[u8], [shares, masks, notion, size, set_length]: [usi
         )
     };
     lent.reply(status, &numbers, Some(set))
+}
+
+pub fn set_dependence(table: &[u8], [shares, masks, notion]: [usize; 3], set: &[u16]) -> Reply {
+    let mut lent = Lent::new();
+    let (table, set) = (lent.bytes_with(table), lent.wire_numbers_with(set));
+    let numbers = [(); 4].map(|()| lent.number());
+    let base = lent.base();
+    let (table_at, length, set_at, set_length) = (table.at(base), table.elements(), set.at(base), set.elements());
+    let (of_a, of_b, allowed) = (numbers[0].at(base), numbers[1].at(base), numbers[2].at(base));
+    let masked = numbers[3].at(base);
+    let status = unsafe {
+        entries::calduvren_set_dependence(
+            table_at, length, shares, masks, notion, set_at, set_length, of_a, of_b, allowed, masked,
+        )
+    };
+    lent.reply(status, &numbers, None)
 }
 
 pub fn set_count(wires: usize, size: usize) -> Reply {

@@ -1,11 +1,14 @@
 //! The self-check of the inputs: wrong models, most of them errors that the scope names, run on the inputs of the
 //! passes. Each has to be told from the engine by some input; one that is not shows that the inputs are too weak.
 
+mod counts;
+pub mod dependence;
 pub mod notes;
 mod sums;
+mod words;
 
 use crate::model;
-use crate::model::breaking::{breaks, inner, shares_of_a, shares_of_b, sum, Search, NI, SCOPE, SNI};
+use crate::model::breaking::{allowed, breaks, shares_of_a, shares_of_b, sum, Search, NI, SCOPE};
 use crate::model::reading::{Reading, MAX_TEXT_BYTES};
 use crate::model::records::{parse, to_bytes, Record};
 use crate::model::report::{opening, report, report_up_to};
@@ -137,7 +140,9 @@ const FIRST_PIECE: &str = "a program takes the first piece for the text";
 pub fn name_all(tally: &mut Tally) {
     PROGRAMS.iter().for_each(|(name, _)| tally.expect_fault(name));
     tally.expect_fault(FIRST_PIECE);
+    words::name_all(tally);
     notes::name_all(tally);
+    dependence::name_all(tally);
     VERDICTS.iter().for_each(|(name, _, _)| tally.expect_fault(name));
     for name in [TWO_SYMBOLS, NO_SUMS, TURNED_DOWN, NO_TABLE, CLEAN, INVENTED_COUNT] {
         tally.expect_fault(name);
@@ -157,8 +162,7 @@ fn falling(set: Vec<u16>) -> Vec<u16> {
 
 fn counts_added(records: &[Record], set: &[u16], notion: usize) -> bool {
     let sum = sum(records, set);
-    let counted = if notion == SNI { inner(records, set) } else { set.len() };
-    sum.masks == 0 && shares_of_a(sum) + shares_of_b(sum) > counted
+    sum.masks == 0 && shares_of_a(sum) + shares_of_b(sum) > allowed(records, set, notion)
 }
 
 fn outer_wire_pays(records: &[Record], set: &[u16], _: usize) -> bool {
@@ -174,7 +178,7 @@ fn cancelled_seen(records: &[Record], set: &[u16], notion: usize) -> bool {
         b: seen.b | wire.b,
         ..seen
     });
-    let counted = if notion == SNI { inner(records, set) } else { set.len() };
+    let counted = allowed(records, set, notion);
     sum(records, set).masks == 0 && (shares_of_a(seen) > counted || shares_of_b(seen) > counted)
 }
 
@@ -216,6 +220,7 @@ pub fn program(tally: &mut Tally, text: &[u8], first_piece: usize, report: &str,
     for (name, wrong) in &PROGRAMS {
         tally.fault(name, wrong(text, report).as_bytes() != printed);
     }
+    words::program(tally, text, report, printed);
     if first_piece < text.len() {
         tally.fault(FIRST_PIECE, small_report(&text[..first_piece]).as_bytes() != printed);
     }

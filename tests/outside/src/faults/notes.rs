@@ -1,5 +1,6 @@
 //! Wrong notes: each has to be told from those of the program `report` on some text.
 
+use super::counts::COUNTS;
 use super::sums::SUMS;
 use crate::model::lines::{printing, view, view_by, View, REACH};
 use crate::model::notes::{meaning, sets, Notes, Shown, Way, RIGHT};
@@ -167,13 +168,17 @@ const NOTES: [(&str, Way); 22] = [
     ),
 ];
 
+fn all() -> impl Iterator<Item = &'static (&'static str, Way)> {
+    NOTES.iter().chain(&SUMS).chain(&COUNTS)
+}
+
 pub fn name_all(tally: &mut Tally) {
-    NOTES.iter().chain(&SUMS).for_each(|(name, _)| tally.expect_fault(name));
+    all().for_each(|(name, _)| tally.expect_fault(name));
 }
 
 /// On a text whose report is given too. `differ` tells whether notes are not those that came from the program.
 pub fn program(tally: &mut Tally, text: &[u8], report: &str, differ: impl Fn(&Notes) -> bool) {
-    for (name, way) in NOTES.iter().chain(&SUMS) {
+    for (name, way) in all() {
         tally.fault(name, differ(&way.notes(text, report)));
     }
 }

@@ -6,6 +6,7 @@ use super::gadgets::{self, Cross, End};
 use super::noted::{self, broken_at_once};
 use super::sums;
 use super::texts::sound;
+use super::words;
 use crate::child::{Call, Error, Input, Output};
 use crate::model::reading::MAX_TEXT_BYTES;
 use crate::model::records::MAX_WIRES;
@@ -45,7 +46,7 @@ pub struct Case {
 }
 
 pub fn all(random: &mut Random) -> Vec<Case> {
-    let noted = [noted::texts(), sums::texts()].concat();
+    let noted = [noted::texts(), sums::texts(), words::texts()].concat();
     let noted = noted.iter().map(|text| at_once(text)).collect();
     [
         late(),

@@ -35,8 +35,20 @@ pub struct TooMany;
 /// Whether a set of distinct wires breaks the notion.
 pub fn breaks(records: &[Record], set: &[u16], notion: usize) -> bool {
     let sum = sum(records, set);
-    let counted = if notion == SNI { inner(records, set) } else { set.len() };
-    sum.masks == 0 && (shares_of_a(sum) > counted || shares_of_b(sum) > counted)
+    sum.masks == 0 && exceeding(sum, allowed(records, set, notion)) != [false, false]
+}
+
+/// Whether a sum depends on more shares of a, and on more of b, than are allowed.
+pub fn exceeding(sum: Record, allowed: usize) -> [bool; 2] {
+    [shares_of_a(sum), shares_of_b(sum)].map(|count| count > allowed)
+}
+
+/// How many shares of each operand the notion allows a set.
+pub fn allowed(records: &[Record], set: &[u16], notion: usize) -> usize {
+    match notion {
+        SNI => inner(records, set),
+        _ => set.len(),
+    }
 }
 
 pub fn sum(records: &[Record], set: &[u16]) -> Record {

@@ -1,4 +1,4 @@
-//! The model: the scope written down a second time, as a program of its own. Here are the ten entries, each with its
+//! The model: the scope written down a second time, as a program of its own. Here are the eleven entries, each with its
 //! refusals in the scope's order; the modules hold what they rest on.
 
 pub mod breaking;
@@ -14,7 +14,7 @@ pub mod trees;
 pub mod wires;
 
 use crate::reply::Reply;
-use breaking::{Found, TooMany, NI, SCOPE, SNI};
+use breaking::{allowed, shares_of_a, shares_of_b, sum, Found, TooMany, NI, SCOPE, SNI};
 use functions::{COPY, PRODUCT, SUM};
 use reading::Reading;
 use records::{length_is_wrong, parse, tested, to_bytes, MAX_WIRES, RECORD_BYTES};
@@ -118,6 +118,32 @@ pub fn range_check(table: &[u8], [shares, masks, notion, size, set_length]: [usi
     }
 }
 
+pub fn set_dependence(table: &[u8], [shares, masks, notion]: [usize; 3], set: &[u16]) -> Reply {
+    let records = match tested(table, shares, masks) {
+        Ok(records) => records,
+        Err(number) => return Reply::refused(number),
+    };
+    if notion != NI && notion != SNI {
+        return Reply::refused(14);
+    }
+    if set.len() > MAX_SIZE {
+        return Reply::refused(17);
+    }
+    if !is_rising_below(set, records.len()) {
+        return Reply::refused(21);
+    }
+    let sum = sum(&records, set);
+    let counts = [shares_of_a(sum), shares_of_b(sum), allowed(&records, set, notion)];
+    let [of_a, of_b, allowed] = counts.map(|count| count as u64);
+    Reply::answered(&[of_a, of_b, allowed, u64::from(sum.masks != 0)], Vec::new())
+}
+
+/// Not refusal 21: each wire is above the one before it, and all are of the table.
+fn is_rising_below(set: &[u16], wires: usize) -> bool {
+    let rising = set.windows(2).all(|pair| pair[0] < pair[1]);
+    rising && set.iter().all(|wire| usize::from(*wire) < wires)
+}
+
 /// What the four entries that take a wire count test first: 12, then 17.
 fn counts_are_wrong(wires: usize, size: usize) -> Option<Reply> {
     if wires > MAX_WIRES {
@@ -150,8 +176,7 @@ pub fn rank_from_set(wires: usize, set: &[u16]) -> Reply {
     if let Some(refusal) = counts_are_wrong(wires, set.len()) {
         return refusal;
     }
-    let rising = set.windows(2).all(|pair| pair[0] < pair[1]);
-    if !rising || set.iter().any(|wire| usize::from(*wire) >= wires) {
+    if !is_rising_below(set, wires) {
         return Reply::refused(21);
     }
     Reply::answered(&[sets::rank(set)], Vec::new())

@@ -1,6 +1,7 @@
 //! The notes on a report: what the program `report` says on standard error, before the report and after it. They follow
 //! from the text and the report alone.
 
+use super::breaking::{shares_of_a, shares_of_b, NI, SNI};
 use super::functions::{own_sum, sum_of_outputs, COPY, PRODUCT, SUM};
 use super::lines::{byte, line, line_of, view, View};
 use super::reading::{read, Reading, MAX_TEXT_BYTES};
@@ -52,6 +53,10 @@ pub struct Way {
     /// What the wires of a set add up to.
     pub together: fn(&[Record], &[usize]) -> Record,
     pub names: fn(Record) -> Vec<String>,
+    /// On how many shares of a and of b the sum of a set depends, how many a notion allows the set, and the line on it.
+    pub counts: fn(Record) -> [usize; 2],
+    pub allowed: fn(&[Record], &[usize], usize) -> usize,
+    pub dependence: fn([usize; 2], usize) -> String,
     /// The note on the function, that on the length, and those on a refusal or on breaks, as they are written.
     pub arranged: fn([Vec<u8>; 3]) -> Notes,
 }
@@ -75,6 +80,9 @@ pub const RIGHT: Way = Way {
     part: |wires, wire| wires[wire],
     together: |wires, set| set.iter().fold(Record::default(), |sum, wire| sum.plus(wires[*wire])),
     names,
+    counts,
+    allowed,
+    dependence,
     arranged: |[function, length, after]| match length.is_empty() {
         true => Notes {
             before: Vec::new(),
@@ -146,12 +154,13 @@ impl Way {
     fn on_breaks(&self, text: &[u8], wires: &[Record], report: &str) -> Vec<u8> {
         let mut notes = Vec::new();
         let sets = (self.shown)(["NI", "SNI"].map(|notion| set_of(report, notion)));
-        for ((notion, counted), set) in [("NI", "wires"), ("SNI", "inner wires")].into_iter().zip(sets) {
+        let notions = [(NI, "NI", "wires"), (SNI, "SNI", "inner wires")];
+        for ((notion, name, counted), set) in notions.into_iter().zip(sets) {
             let Some(set) = set else {
                 continue;
             };
             let sum = "these wires add up to a sum without masks that depends on more shares of a, or of b,";
-            notes.extend(format!("report: {notion} is broken: {sum} than there are {counted}\n").bytes());
+            notes.extend(format!("report: {name} is broken: {sum} than there are {counted}\n").bytes());
             for wire in &set {
                 let part = (self.part)(wires, *wire);
                 let (from, length) = (usize::from(part.offset), usize::from(part.length));
@@ -160,8 +169,11 @@ impl Way {
                 notes.extend(&text[from..from + length]);
                 notes.push(b'\n');
             }
-            let symbols = (self.names)((self.together)(wires, &set)).join(" ");
+            let sum = (self.together)(wires, &set);
+            let symbols = (self.names)(sum).join(" ");
             notes.extend(format!("    together: {symbols}\n").bytes());
+            let allowed = (self.allowed)(wires, &set, notion);
+            notes.extend((self.dependence)((self.counts)(sum), allowed).bytes());
         }
         notes
     }
@@ -189,9 +201,25 @@ fn time(seconds: u64) -> String {
     }
 }
 
+pub fn counts(sum: Record) -> [usize; 2] {
+    [shares_of_a(sum), shares_of_b(sum)]
+}
+
+/// Under SNI the outer wires of a set allow nothing.
+pub fn allowed(wires: &[Record], set: &[usize], notion: usize) -> usize {
+    let pays = |wire: &&usize| notion == NI || !wires[**wire].is_outer();
+    set.iter().filter(pays).count()
+}
+
+pub fn dependence([of_a, of_b]: [usize; 2], allowed: usize) -> String {
+    format!("    depends on {of_a} of a's shares and {of_b} of b's, {allowed} of each allowed\n")
+}
+
+/// The wires of a break, which stand before its operands.
 fn set_of(report: &str, notion: &str) -> Shown {
     let start = format!("{notion} broken ");
     let set = report.lines().find_map(|line| line.strip_prefix(start.as_str()))?;
+    let (set, _) = set.split_once(" by ")?;
     let wires = set.split(' ').map(|wire| wire.parse().expect("a set is of numbers"));
     Some(wires.collect())
 }

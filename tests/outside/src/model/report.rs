@@ -1,9 +1,9 @@
 //! The text of a report.
 
-use super::breaking::{TooMany, NI, SCOPE, SNI};
+use super::breaking::{allowed, exceeding, sum, TooMany, NI, SCOPE, SNI};
 use super::functions::{computes, COPY, PRODUCT, SUM};
 use super::reading::{read, Reading};
-use super::records::MAX_TABLE_BYTES;
+use super::records::{Record, MAX_TABLE_BYTES};
 use super::sets::MAX_SIZE;
 use super::trees::Fault;
 
@@ -22,14 +22,24 @@ pub fn report_up_to(size: usize, text: &[u8], most: u64) -> Result<String, TooMa
     for (notion, name) in [(NI, "NI"), (SNI, "SNI")] {
         let verdict = match SCOPE.first(&reading.wires, notion, reading.order.min(size), most)? {
             None => String::from(" holds"),
-            Some(found) => found
-                .set
-                .iter()
-                .fold(String::from(" broken"), |line, wire| format!("{line} {wire}")),
+            Some(found) => {
+                let set = found.set.iter().map(|wire| format!(" {wire}")).collect::<String>();
+                format!(" broken{set} by {}", operands(&reading.wires, &found.set, notion))
+            }
         };
         report += &format!("{name}{verdict}\n");
     }
     Ok(report)
+}
+
+/// The operands whose count exceeds what the notion allows a set that breaks it.
+pub fn operands(wires: &[Record], set: &[u16], notion: usize) -> &'static str {
+    match exceeding(sum(wires, set), allowed(wires, set, notion)) {
+        [true, true] => "both",
+        [true, false] => "a",
+        [false, true] => "b",
+        [false, false] => unreachable!("a set that is shown breaks"),
+    }
 }
 
 /// The lines before the verdicts, or the only one of a refused text, and what was read.

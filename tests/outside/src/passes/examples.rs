@@ -40,8 +40,11 @@ fn reports_as(text: &str, report: &str) -> bool {
 fn reports(right: &mut Examples) {
     let head = "order 1 shares 2 masks 1 wires 9\nfunction product\n";
     right.push(("A", reports_as(A, &format!("{head}NI holds\nSNI holds\n"))));
-    right.push(("B", reports_as(B, &format!("{head}NI broken 6\nSNI broken 6\n"))));
-    let report_on_c = "order 1 shares 2 masks 0 wires 6\nfunction sum\nNI holds\nSNI broken 2\n";
+    right.push((
+        "B",
+        reports_as(B, &format!("{head}NI broken 6 by both\nSNI broken 6 by both\n")),
+    ));
+    let report_on_c = "order 1 shares 2 masks 0 wires 6\nfunction sum\nNI holds\nSNI broken 2 by both\n";
     right.push(("C", reports_as(C, report_on_c)));
     right.push(("empty text", reports_as("", "refused 2 at 0\n")));
     right.push(("()", reports_as("ORDER = 1\nMASKS = []\n()\na0\n", "refused 6 at 22\n")));

@@ -21,9 +21,10 @@ const CRATE_FILES: [&str; 3] = [
     "crates/calduvren/src/tables.rt",
     "crates/calduvren/src/texts.rt",
 ];
-/// The header's rule: a function more raises the version's minor number, so these two change together.
-const FUNCTIONS: usize = 10;
-const VERSION: usize = 10_000;
+/// The header's rule: a function more raises the version's minor number, another answer to the same call its major one.
+/// So these two change together.
+const FUNCTIONS: usize = 11;
+const VERSION: usize = 20_000;
 
 /// A function's arguments as C declares them.
 type Declarations = BTreeMap<String, Vec<String>>;

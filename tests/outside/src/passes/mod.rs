@@ -1,6 +1,7 @@
 //! The passes of a run. Each compares some entries with the model on inputs of its own, drawn from its own stream of
 //! random numbers, so that a change to one pass leaves the inputs of the others as they were.
 
+mod dependence;
 pub mod examples;
 mod guards;
 mod header;
@@ -16,6 +17,7 @@ mod stack;
 mod texts;
 mod verdicts;
 mod watcher;
+mod words;
 
 use crate::faults;
 use crate::random::Random;
@@ -23,7 +25,7 @@ use crate::tally::Tally;
 
 type Pass = fn(&mut Random, &mut Tally);
 
-const PASSES: [Pass; 14] = [
+const PASSES: [Pass; 16] = [
     guards::run,
     examples::run,
     sets::run,
@@ -38,6 +40,8 @@ const PASSES: [Pass; 14] = [
     header::run,
     programs::run,
     refusals::run,
+    dependence::run,
+    words::run,
 ];
 
 pub fn run_all(seed: u64, tally: &mut Tally) {

@@ -4,6 +4,7 @@ use crate::model::notes::Notes;
 use crate::tally::Tally;
 
 const OTHER: &str = "report: function other: the output lines differ from ";
+const DEPENDS: &str = "    depends on ";
 
 /// Each kind with what is in the notes of it, and of no other.
 const KINDS: [(&str, &str); 24] = [
@@ -88,10 +89,10 @@ pub fn count(tally: &mut Tally, Notes { before, after }: &Notes) {
     }
     let all = format!("{before}{after}");
     count_sums(tally, &all);
-    // The note on the function may stand before those on breaks.
+    // The note on the function may stand before those on breaks, and what is allowed differs where the set does not.
     let after: String = after
         .split_inclusive('\n')
-        .filter(|line| !line.starts_with(OTHER))
+        .filter(|line| !line.starts_with(OTHER) && !line.starts_with(DEPENDS))
         .collect();
     let parts = |notes: &str| notes.lines().skip(1).map(String::from).collect::<Vec<_>>();
     let sets = after.split_once("report: SNI").map(|(ni, sni)| (parts(ni), parts(sni)));

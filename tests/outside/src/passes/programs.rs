@@ -3,7 +3,7 @@
 //! prints is compared with the model's report, and what it says on standard error with the model's notes, byte for
 //! byte.
 
-use super::noted;
+use super::{noted, words};
 use crate::child::{Error, Input, Outcome};
 use crate::faults;
 use crate::inputs::calls::show_text;
@@ -54,6 +54,7 @@ struct Model {
 pub fn run(random: &mut Random, tally: &mut Tally) {
     tally.expect("program", &KINDS);
     noted::expect(tally);
+    words::expect(tally);
     let cases = runs::all(random);
     for (case, model, outcome) in run_cases(&cases) {
         tally.occurs("program", kind(case, &model));
@@ -72,6 +73,7 @@ pub fn run(random: &mut Random, tally: &mut Tally) {
             compare_with_faults(tally, case, text, &model.report, &outcome);
             if case.call.error == Error::Pipe {
                 noted::count(tally, &model.notes);
+                words::count(tally, &model.report);
             }
         }
     }
@@ -173,7 +175,8 @@ fn kind(case: &Case, Model { report, notes }: &Model) -> &'static str {
 /// How many wires a report shows for each notion that is broken.
 fn sizes_of_breaks(report: &str) -> Vec<usize> {
     let sets = report.lines().filter_map(|line| line.split_once(" broken "));
-    sets.map(|(_, set)| set.split(' ').count()).collect()
+    let sets = sets.filter_map(|(_, set)| set.split_once(" by "));
+    sets.map(|(set, _)| set.split(' ').count()).collect()
 }
 
 /// What has to arrive from standard output and from standard error, where there is a report.

@@ -1,13 +1,14 @@
 //! The stack: every entry is called with its largest inputs in a thread that has no more stack than the header asks
 //! for.
 
+use super::dependence;
 use crate::answers::Entry;
 use crate::engine;
 use crate::inputs::calls::TableCall;
 use crate::inputs::tables::{planted, Table};
 use crate::model;
 use crate::model::reading::{read, MAX_TEXT_BYTES};
-use crate::model::records::{to_bytes, MAX_SHARES, MAX_TABLE_BYTES, MAX_WIRES};
+use crate::model::records::{to_bytes, MAX_SHARES, MAX_TABLE_BYTES, MAX_WIRES, RECORD_BYTES};
 use crate::model::report::report;
 use crate::model::sets::{count, from_rank, MAX_JOBS, MAX_SIZE};
 use crate::random::Random;
@@ -150,6 +151,12 @@ fn calls_on_table(random: &mut Random, table: &Table, order: usize, range: [u64;
         let word = if reply.numbers[0] == Some(1) { "holds" } else { "broken" };
         calls.push(call(Entry::Verdict, word, reply, move || {
             engine::verdict(&for_verdict, numbers)
+        }));
+        let wires = table.len() / RECORD_BYTES;
+        let (for_set, set) = (table.clone(), from_rank(wires, MAX_SIZE, count(wires, MAX_SIZE) - 1));
+        let reply = model::set_dependence(&table, [shares, masks, notion], &set);
+        calls.push(call(Entry::SetDependence, dependence::word(&reply), reply, move || {
+            engine::set_dependence(&for_set, [shares, masks, notion], &set)
         }));
         let numbers = [shares, masks, notion, MAX_SIZE, MAX_SIZE];
         let reply = model::range_check(&table, numbers, range);

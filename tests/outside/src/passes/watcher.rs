@@ -7,10 +7,17 @@ use crate::inputs::tables::{circuit, loose, Table};
 use crate::model::breaking::{NI, SNI};
 use crate::model::sets;
 use crate::random::Random;
+use crate::reply::Reply;
 use crate::tally::Tally;
 
 const TABLES: usize = 20_000;
 const MOST_WIRES: usize = 7;
+
+/// The operands that leak by the set that a verdict shows, for NI and for SNI.
+const LEAKS: [[&str; 3]; 2] = [
+    ["NI by a", "NI by b", "NI by both"],
+    ["SNI by a", "SNI by b", "SNI by both"],
+];
 
 /// For every input, shares of a in the low bits and of b above them, and every mask setting: bit w for wire w's value.
 struct Values {
@@ -20,6 +27,7 @@ struct Values {
 
 pub fn run(random: &mut Random, tally: &mut Tally) {
     let mut counts = [[0; 2]; 2];
+    tally.expect("  leaks", &LEAKS.concat());
     for _ in 0..TABLES {
         let table = any_table(random);
         let call = TableCall::new(random, &table);
@@ -29,6 +37,8 @@ pub fn run(random: &mut Random, tally: &mut Tally) {
                 let holds = compare(tally, &call, &table, &values, [notion, order]);
                 counts[notion - 1][usize::from(holds)] += 1;
             }
+            let set = any_set(random, table.records.len());
+            compare_dependence(tally, &call, &table, &values, notion, &set);
         }
     }
     let [[ni_broken, ni_holds], [sni_broken, sni_holds]] = counts;
@@ -60,7 +70,11 @@ fn compare(tally: &mut Tally, call: &TableCall, table: &Table, values: &Values, 
     let reply = engine::verdict(&call.table, [call.shares, call.masks, notion, order, order]);
     let right = match (reply.status, reply.numbers[0]) {
         (0, Some(1)) => holds,
-        (0, Some(0)) => is_set(&reply.written, table, order) && !admits_choice(table, values, &reply.written, notion),
+        (0, Some(0)) => {
+            is_set(&reply.written, table, order)
+                && !admits_choice(table, values, &reply.written, notion)
+                && operands_are_right(tally, call, table, values, notion, &reply.written)
+        }
         _ => false,
     };
     if !right || !reply.rest_kept {
@@ -72,6 +86,75 @@ fn compare(tally: &mut Tally, call: &TableCall, table: &Table, values: &Values, 
         });
     }
     holds
+}
+
+/// Of a and of b, whether the operand leaks by a set that breaks the notion while no smaller one does: no choice of
+/// shares will do, though all shares of the other operand may be chosen.
+fn leaks(table: &Table, values: &Values, set: &[u16], notion: usize) -> [bool; 2] {
+    let (few, all) = (allowed(table, set, notion), table.shares);
+    [!admits(values, set, [few, all]), !admits(values, set, [all, few])]
+}
+
+/// The same for a table of few wires and masks.
+pub fn leaking(table: &Table, set: &[u16], notion: usize) -> [bool; 2] {
+    leaks(table, &values(table), set, notion)
+}
+
+/// Whether the engine's counts for the set shown exceed what is allowed for the operands that leak, and for no other.
+fn operands_are_right(
+    tally: &mut Tally,
+    call: &TableCall,
+    table: &Table,
+    values: &Values,
+    notion: usize,
+    set: &[u16],
+) -> bool {
+    let leaks = leaks(table, values, set, notion);
+    let kind = match leaks {
+        [true, false] => 0,
+        [false, true] => 1,
+        [true, true] => 2,
+        [false, false] => return false,
+    };
+    tally.occurs("  leaks", LEAKS[notion - 1][kind]);
+    let reply = engine::set_dependence(&call.table, [call.shares, call.masks, notion], set);
+    match reply.numbers {
+        [Some(of_a), Some(of_b), Some(allowed), Some(0), None] => {
+            reply.rest_kept && leaks == [of_a, of_b].map(|count| count > allowed)
+        }
+        _ => false,
+    }
+}
+
+/// Any set's counts and mask by values alone: the sum depends on a share, or on a mask, where the wires' values add up
+/// to another bit once that one is changed, under some input and mask setting.
+fn compare_dependence(tally: &mut Tally, call: &TableCall, table: &Table, values: &Values, notion: usize, set: &[u16]) {
+    let bit = |input: usize, setting: usize| {
+        let bits = set.iter().map(|wire| values.of_inputs[input][setting] >> wire & 1);
+        bits.sum::<u16>() % 2
+    };
+    let (inputs, settings) = (values.of_inputs.len(), values.of_inputs[0].len());
+    let some = |differs: &dyn Fn(usize, usize) -> bool| {
+        (0..inputs).any(|input| (0..settings).any(|setting| differs(input, setting)))
+    };
+    let share = |place: &usize| some(&|input, setting| bit(input, setting) != bit(input ^ 1 << place, setting));
+    let mask = |place: usize| some(&|input, setting| bit(input, setting) != bit(input, setting ^ 1 << place));
+    let of_a = (0..table.shares).filter(share).count();
+    let of_b = (table.shares..2 * table.shares).filter(share).count();
+    let masked = (0..table.masks).any(mask);
+    let counts = [of_a, of_b, allowed(table, set, notion), usize::from(masked)];
+    let wanted = Reply::answered(&counts.map(|count| count as u64), Vec::new());
+    let reply = engine::set_dependence(&call.table, [call.shares, call.masks, notion], set);
+    if reply != wanted {
+        tally.differs(|| {
+            let input = format!("notion {notion} set {set:?} {}", call.show());
+            format!("watcher: dependence {input}\n    by values: {wanted}\n    engine: {reply}")
+        });
+    }
+}
+
+fn any_set(random: &mut Random, wires: usize) -> Vec<u16> {
+    (0..wires as u16).filter(|_| random.chance(50)).collect()
 }
 
 fn is_set(set: &[u16], table: &Table, order: usize) -> bool {
@@ -102,18 +185,31 @@ fn values(table: &Table) -> Values {
 /// Whether shares of a and of b can be chosen, of each no more than the set has wires (for SNI, inner wires), so that
 /// inputs that agree on them give each pattern from equally many mask settings.
 fn admits_choice(table: &Table, values: &Values, set: &[u16], notion: usize) -> bool {
+    admits(values, set, [allowed(table, set, notion); 2])
+}
+
+fn allowed(table: &Table, set: &[u16], notion: usize) -> usize {
     let inner = set
         .iter()
         .filter(|wire| table.records[usize::from(**wire)].outer == 0)
         .count();
-    let allowed = if notion == SNI { inner } else { set.len() };
+    if notion == SNI {
+        inner
+    } else {
+        set.len()
+    }
+}
+
+/// Likewise, with at most so many shares of a and so many of b.
+fn admits(values: &Values, set: &[u16], most: [usize; 2]) -> bool {
     let patterns: Vec<Vec<u32>> = values
         .of_inputs
         .iter()
         .map(|settings| count_patterns(settings, set))
         .collect();
-    let choices = |_| (0..1usize << values.shares).filter(|choice| choice.count_ones() as usize <= allowed);
-    choices("a").any(|of_a| choices("b").any(|of_b| agreeing_inputs_are_alike(&patterns, of_b << values.shares | of_a)))
+    let choices = |most| (0..1usize << values.shares).filter(move |choice| choice.count_ones() as usize <= most);
+    choices(most[0])
+        .any(|of_a| choices(most[1]).any(|of_b| agreeing_inputs_are_alike(&patterns, of_b << values.shares | of_a)))
 }
 
 /// From how many mask settings each pattern on the set's wires comes.
