@@ -14,7 +14,7 @@
 --     says-function, says-notion           what the function line and the line of a notion say
 --     says                                 what the report says of a text that spells a description within the limits
 --     refuses                              and of any other
-use Prim.Native.Nat.{ℕ, suc, _+_, _*_, _≤_, _<_}
+use Prim.Native.Nat.{ℕ, _+_, _*_, _≤_, _<_}
 use native.Mathlib.Decide.{decLt}
 use native.Mathlib.Omega.{arith}
 use mathlib.Core.Path.{_≡_, refl, sym, _∙_, ap, ap₂, subst}

@@ -33,7 +33,7 @@ use Rattle.description.specs.declared.Refusal as reading
 use Rattle.report_text.specs.declared.Refusal as report-texts
 use Rattle.report_text.specs.declared.ReportAnswer.{ReportAnswer}
 use Rattle.pages.specs.Decimal.{decimal}
-use Rattle.pages.specs.Page.{Wrote, wireNumbers}
+use Rattle.pages.specs.Page.{Wrote}
 use Rattle.report_text.specs.Report.{
   operandsNamed,
   operands,

@@ -9,26 +9,25 @@ use Prim.Native.Nat.{ℕ, _≤_, _<_}
 use native.Mathlib.Omega.{arith}
 use mathlib.Core.Path.{_≡_, refl, sym, _∙_, ap, subst}
 use mathlib.Core.Logic.{_↔_, _⊎_, inl, inr}
-use mathlib.Core.Bool.{Bool, true, false, not, cond, _&&_, true≢false}
+use mathlib.Core.Bool.{Bool, true, false, not, cond, _&&_}
 use mathlib.Core.List.{List, [], _∷_, map}
 use borrow.Author.Tests.{lt-ltb, le-ltb}
 use lib.Dec.{ltb}
 use lib.ListN.{length, take, length-map}
 use Rattle.limits.specs.Limits.{maxShares, maxMasks, maxSize}
 use Rattle.basics.specs.Folds.{oneIf}
-use Rattle.basics.specs.Told.{Told, Lent, values, refusal}
-use Rattle.basics.proofs.Tests.{and-left, and-right, and-both}
+use Rattle.basics.specs.Told.{Told, values, refusal}
 use Rattle.wires.specs.declared.Notion.{Notion}
 use Rattle.wires.specs.Wires.{Terms, Wire, total, countA, countB, masked, allowed, breaks}
 use Rattle.wires.specs.Dependence.{SetDepends}
 use Rattle.wires.proofs.Breaks.{breaks-counts}
 use Rattle.wires.proofs.Changes.{set-depends}
-use Rattle.wires.proofs.Narrow.{Within, within-total, countA-narrow, countB-narrow, masked-narrow}
+use Rattle.wires.proofs.Narrow.{within-total, countA-narrow, countB-narrow, masked-narrow}
 use Rattle.watcher.proofs.Bits.{pick, pick-map}
 use Rattle.watcher.proofs.Choice.{leaks-a, leaks-b}
 use Rattle.records.specs.Layout.{wireAt, wireCount, inside}
 use Rattle.table.specs.Answers.{tableCheck}
-use Rattle.table.proofs.Conditions.{Sound, accepted-exactly}
+use Rattle.table.proofs.Conditions.{accepted-exactly}
 use Rattle.table.proofs.Entries.{set-within}
 use Rattle.revolving.specs.Order.{rising, below}
 use Rattle.revolving.proofs.Rising.{parts-isSet}
@@ -42,8 +41,7 @@ use Rattle.verdict.specs.declared.DependenceAnswer.{DependenceAnswer}
 use Rattle.verdict.specs.Answers.{refusalNumber, dependenceTold, notionOf, openedTold, opens, depended, verdictOf, setDependence}
 use Rattle.verdict.specs.Conditions.{WrongNotion}
 use Rattle.verdict.specs.First.{NotAfter, FirstBreaking}
-use Rattle.verdict.specs.Jobs.{Ordered}
-use Rattle.verdict.specs.Dependence.{SetAsked, DependenceMeans, LeaksA, LeaksB, Leaking}
+use Rattle.verdict.specs.Dependence.{SetAsked, DependenceMeans, Leaking}
 use Rattle.verdict.proofs.Admitting.{opened-answer, opened-refusal}
 use Rattle.verdict.proofs.Conditions.{verdict-ordered, dependence-asked, dependence-answered}
 use Rattle.verdict.proofs.Watching.{pick-watched}
