@@ -29,7 +29,8 @@ use Rattle.description.specs.Listing.{encode}
 use Rattle.description.specs.Run.{run}
 use Rattle.reader.specs.Answers.{gives, refused, readText, partCheck}
 use Rattle.pages.specs.Decimal.{decimal}
-use Rattle.report_text.specs.Report.{functionLine, notionLine, checked, report, reportText}
+use Rattle.verdict_lines.specs.Lines.{notionLine}
+use Rattle.report_text.specs.Report.{functionLine, checked, report, reportText}
 use Rattle.calduvren.specs.Calls.{Called, got, answered, lentAnswered, lentJudged, lentRead}
 
 -- in general: whatever an entry tells, a refusal's number is the status, and then no number but reading's offset is altered; else the status is 0,

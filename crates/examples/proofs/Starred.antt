@@ -26,7 +26,8 @@ use Rattle.description.specs.Listing.{encode}
 use Rattle.description.specs.Run.{run}
 use Rattle.search.specs.Search.{searched, isBreaking}
 use Rattle.pages.specs.Decimal.{decimal}
-use Rattle.report_text.specs.Report.{functionLine, notionLine, checked, report}
+use Rattle.verdict_lines.specs.Lines.{notionLine}
+use Rattle.report_text.specs.Report.{functionLine, checked, report}
 use Rattle.examples.specs.Starred.{Case, AllHold, starred, AlsoInGeneral}
 
 -- two parts of a table

@@ -29,7 +29,8 @@ use Rattle.sets.specs.Visits.{SetTells}
 use Rattle.search.specs.Search.{isBreaking}
 use Rattle.verdict.specs.Answers.{rangeCheck, setDependence}
 use Rattle.reader.specs.Answers.{ReadTold, gives, refused, readText}
-use Rattle.report_text.specs.Report.{emptyTable, emptySet, maxReport, reportText}
+use Rattle.verdict_lines.specs.Lines.{emptySet}
+use Rattle.report_text.specs.Report.{emptyTable, maxReport, reportText}
 
 -- ---- questions
 

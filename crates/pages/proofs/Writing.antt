@@ -1,4 +1,6 @@
 -- Bytes written one run after the other.
+--     apart             runs of bytes are apart where a byte differs
+--     part-start        the part of a list from its start on
 --     wrote-nothing     nothing is written
 --     wrote-after       a run of bytes, then another
 --     wrote-copied      bytes copied to the page from the place on
@@ -10,7 +12,10 @@ use Prim.Native.Nat.{ℕ, suc, _+_, _-_, _/_, _%_, _≤_, _<_}
 use native.Mathlib.Nat.{le-refl}
 use native.Mathlib.Omega.{arith}
 use mathlib.Core.Path.{_≡_, refl, sym, _∙_, ap, subst}
+use mathlib.Core.Bool.{false, true≢false}
 use mathlib.Core.List.{List, [], _∷_, _++_, append-assoc, append-nil}
+use borrow.Author.Tests.{eq-eqb}
+use lib.Dec.{eqb}
 use lib.ListN.{length, length-append, take, drop, set, getD, take-append-drop}
 use lib.Seq.{take-length, take-all, take-suc, length-take-le, drop-append-le, take-suc-set, drop-set-lt, drop-drop, take-at, drop-at}
 use borrow.Rule.Slice.PartMut.{midOf, postOf, putMid, mid-len}
@@ -19,6 +24,12 @@ use Rattle.basics.proofs.Folds.{fold-append}
 use Rattle.pages.specs.Decimal.{digitByte, decimal}
 use Rattle.pages.specs.Page.{Wrote, wireNumbers}
 use Rattle.pages.proofs.Numbers.{decimal-low, decimal-more}
+
+pub apart : {l m : List ℕ} (at : ℕ) → l ≡ m → eqb (getD l at 0) (getD m at 0) ≡ false → ⊥
+apart {l} {m} at e f = true≢false (sym (eq-eqb (getD l at 0) (getD m at 0) (ap (λ (k : List ℕ). getD k at 0) e)) ∙ f)
+
+pub part-start : (n : ℕ) (l : List ℕ) → take (n - 0) l ≡ take n l
+part-start n l = let e : n - 0 ≡ n = omega arith in ap {B = List ℕ} (λ k. take k l) e
 
 pub wrote-nothing : (page : List ℕ) (at : ℕ) → Wrote page at [] page at
 wrote-nothing page at = record { end-is = omega arith; stands = sym (append-nil (take at page)); rest = refl }

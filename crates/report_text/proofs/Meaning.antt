@@ -1,56 +1,40 @@
 -- What the report says of a gadget, in the words of the grammar and of the watcher.
---     apart, holds-broken                  lines are apart where a byte differs; one that says holds is none that says broken
 --     refused-report                       the report, where reading tells a refusal
 --     turned-told, large-told              what reading tells of a text that is turned down, and of one with too many wires
 --     read-report                          the report on a text that was read
 --     function-told, yes-exactly           what the function check tells of a table that passes the tests: yes exactly where the outer wires add up
 --     product-sum, product-copy, sum-copy  no two of the three functions are what the outer wires add up to
 --     named                                which function is named, by the three answers
---     operands-named                       which operand is named, by the two tests
---     after-part                           what does not come after a part of a set does not come after the set
---     not-after                            whether a set comes after another is decided by their sizes and ranks
---     shown-first                          the first breaking set comes after no set without a choice
 --     function-accepted, read-accepted     of a text that was read neither the function check nor a verdict is refused
---     says-function, says-notion           what the function line and the line of a notion say
+--     says-function                        what the function line says
 --     says                                 what the report says of a text that spells a description within the limits
 --     refuses                              and of any other
 use Prim.Native.Nat.{ℕ, _+_, _*_, _≤_, _<_}
-use native.Mathlib.Decide.{decLt}
 use native.Mathlib.Omega.{arith}
 use mathlib.Core.Path.{_≡_, refl, sym, _∙_, ap, ap₂, subst}
-use mathlib.Core.Logic.{_↔_, Iff·trans, _⊎_, inl, inr, ⊎-elim}
-use mathlib.Core.Bool.{Bool, true, false, cond, not, _&&_, xor, true≢false, false≢true}
-use mathlib.Core.List.{List, [], _∷_, _++_, map}
+use mathlib.Core.Logic.{_↔_, _⊎_, inl, inr, ⊎-elim}
+use mathlib.Core.Bool.{Bool, true, false, cond, not, _&&_, xor, false≢true}
+use mathlib.Core.List.{List, [], _∷_, _++_}
 use lib.Dec.{ltb, leb, eqb}
-use lib.ListN.{length, length-replicate, take, drop, getD}
-use lib.Seq.{take-at, take-append-seam}
-use borrow.Author.Tests.{le-leb, lt-ltb, ltb-true, ltb-false, eq-eqb}
+use lib.ListN.{length, length-replicate, drop}
+use lib.Seq.{take-at}
+use borrow.Author.Tests.{le-leb, ltb-true, ltb-false}
 use Rattle.limits.specs.Limits.{maxWires, recordBytes, maxTableBytes}
-use Rattle.basics.specs.Folds.{keep, oneIf}
+use Rattle.basics.specs.Folds.{oneIf}
 use Rattle.basics.specs.Quoted.{bytes}
-use Rattle.basics.specs.Told.{Told, Lent, values, refusal}
+use Rattle.basics.specs.Told.{values, refusal}
 use Rattle.basics.proofs.Tests.{xor-false, false-xor, xor-self}
 use Rattle.basics.proofs.Folds.{fold-pick}
-use Rattle.basics.proofs.Conditions.{values-refusal, less}
-use Rattle.wires.specs.Wires.{Wire, Input, breaks}
+use Rattle.basics.proofs.Conditions.{values-refusal}
+use Rattle.wires.specs.Wires.{Wire, Input}
 use Rattle.wires.specs.Function.{operand, functionOf, AddUpTo, computes}
 use Rattle.wires.proofs.Function.{computes-exactly}
-use Rattle.watcher.proofs.Bits.{pick, pick-size, pick-map}
-use Rattle.watcher.proofs.Choice.{choice}
-use Rattle.records.specs.Layout.{wireAt, wireCount, wires}
-use Rattle.revolving.specs.Order.{rankOf}
+use Rattle.records.specs.Layout.{wires}
 use Rattle.table.specs.Answers.{tableCheck, functionCheck}
 use Rattle.table.proofs.Conditions.{accepted-exactly, tested-answer}
-use Rattle.search.specs.Search.{searched, isBreaking}
-use Rattle.verdict.specs.Answers.{notionOf, written, firstShown, verdictOf, setDependence}
-use Rattle.verdict.specs.Guarantee.{Watched, HasChoice}
-use Rattle.verdict.specs.First.{NotAfter, FirstBreaking}
-use Rattle.verdict.proofs.Watching.{pick-watched, all-choose, shown-none}
-use Rattle.verdict.proofs.First.{first-is}
+use Rattle.verdict.specs.Answers.{verdictOf}
 use Rattle.verdict.specs.Jobs.{Ordered}
-use Rattle.verdict.specs.Dependence.{LeaksA, LeaksB, Leaking}
-use Rattle.verdict.proofs.Dependence.{first-leaks}
-use Rattle.verdict.proofs.Conditions.{verdict-ordered, verdict-answered}
+use Rattle.verdict.proofs.Conditions.{verdict-ordered}
 use Rattle.description.specs.declared.Listed.{Listed}
 use Rattle.description.specs.declared.Refusal.{Refusal}
 use Rattle.description.specs.Listing.{recordsOf}
@@ -62,19 +46,12 @@ use Rattle.description.proofs.Tables.{wires-mean, table-passes}
 use Rattle.reader.specs.Answers.{ReadTold, ReadLent, refused, lentReading, readText}
 use Rattle.reader.proofs.Telling.{too-large, large-enough}
 use Rattle.reader.specs.Reads.{Readable}
-use Rattle.pages.specs.Page.{wireNumbers}
-use Rattle.report_text.specs.Report.{orderLine, saysYes, functionLine, operandsNamed, operands, notionName, verdictSaid, emptySet, notionLine, checked}
+use Rattle.pages.proofs.Writing.{apart}
+use Rattle.verdict_lines.specs.Lines.{emptySet, notionLine}
+use Rattle.verdict_lines.proofs.Meaning.{line-says}
+use Rattle.report_text.specs.Report.{orderLine, saysYes, functionLine, checked}
 use Rattle.report_text.specs.Report.{refusedLine, emptyTable, reported, readReported, report}
-use Rattle.report_text.specs.Meaning.{tableOf, sharesOf, masksOf, Computes, NamesFunction, NamesOperands, SaysNotion, ReportSays, Refuses}
-
--- ---- lines
-
-apart : {l m : List ℕ} (at : ℕ) → l ≡ m → eqb (getD l at 0) (getD m at 0) ≡ false → ⊥
-apart {l} {m} at e f = true≢false (sym (eq-eqb (getD l at 0) (getD m at 0) (ap (λ (k : List ℕ). getD k at 0) e)) ∙ f)
-
-holds-broken : (name wires word : List ℕ) → name ++ (bytes " broken" ++ wires ++ word) ++ bytes "\n" ≡ name ++ bytes " holds" ++ bytes "\n" → ⊥
-holds-broken [] wires word e = apart 1 e refl
-holds-broken (c ∷ name) wires word e = holds-broken name wires word (ap (drop 1) e)
+use Rattle.report_text.specs.Meaning.{tableOf, sharesOf, masksOf, Computes, NamesFunction, ReportSays, Refuses}
 
 -- ---- what reading comes to
 
@@ -177,71 +154,6 @@ named d false false false product sum copy = record {
   named = inr (inr (inr refl));
 }
 
--- ---- the set shown
-
--- the three words differ in the byte after the second space, or in the one after that
-operands-named : (d : Description) (notion : ℕ) (set : List ℕ) (a b : Bool) → (a ≡ true) ↔ LeaksA (tableOf d) (sharesOf d) (masksOf d) notion set
-    → (b ≡ true) ↔ LeaksB (tableOf d) (sharesOf d) (masksOf d) notion set → (a ≡ true) ⊎ (b ≡ true) → NamesOperands d notion set (operandsNamed a b)
-operands-named d notion set true true leaks-a leaks-b some = record {
-  names-a = (λ e. leaks-a .0 refl, λ h. inr refl);
-  names-b = (λ e. leaks-b .0 refl, λ h. inr refl);
-  stands = inr (inr refl);
-}
-operands-named d notion set true false leaks-a leaks-b some = record {
-  names-a = (λ e. leaks-a .0 refl, λ h. inl refl);
-  names-b = (⊎-elim (λ e. absurd (apart 4 e refl)) (λ e. absurd (apart 4 e refl)), λ h. absurd (false≢true (leaks-b .1 h)));
-  stands = inl refl;
-}
-operands-named d notion set false true leaks-a leaks-b some = record {
-  names-a = (⊎-elim (λ e. absurd (apart 4 e refl)) (λ e. absurd (apart 5 e refl)), λ h. absurd (false≢true (leaks-a .1 h)));
-  names-b = (λ e. leaks-b .0 refl, λ h. inl refl);
-  stands = inr (inl refl);
-}
-operands-named d notion set false false leaks-a leaks-b some = absurd (⊎-elim false≢true false≢true some)
-
-after-part : (n : ℕ) (s u : List ℕ) (l : List Bool) → NotAfter n s (pick l u) → NotAfter n s u
-after-part n s u l = go (pick-size l u)
-  where
-    go : (length (pick l u) < length u) ⊎ (pick l u ≡ u) → NotAfter n s (pick l u) → NotAfter n s u
-    go (inl less) (inl h) = inl (omega (arith, less, h))
-    go (inl less) (inr h) = inl (omega (arith, less, h .0))
-    go (inr e) h = subst (NotAfter n s) e h
-
-not-after : (n : ℕ) (s u : List ℕ) → Dec (NotAfter n s u)
-not-after n s u = go (decLt (length s) (length u)) (decLt (length u) (length s)) (decLt (rankOf n u) (rankOf n s))
-  where
-    go : Dec (length s < length u) → Dec (length u < length s) → Dec (rankOf n u < rankOf n s) → Dec (NotAfter n s u)
-    go (yes less) more low = yes (inl less)
-    go (no less) (no more) (no low) = yes (inr (omega arith, omega arith))
-    go (no less) (yes more) low = no longer
-      where
-        longer : NotAfter n s u → ⊥
-        longer (inl h) = omega arith
-        longer (inr h) = omega (arith, h .0)
-    go (no less) (no more) (yes low) = no later
-      where
-        later : NotAfter n s u → ⊥
-        later (inl h) = less h
-        later (inr h) = omega (arith, h .1)
-
--- a set that came before it would have no part that breaks, and so a choice
-shown-first : (table : List ℕ) (shares masks notion order : ℕ) (s : List ℕ) → FirstBreaking table shares masks notion order s
-    → (u : List ℕ) → Watched table order u → (HasChoice table shares masks notion u → ⊥) → NotAfter (wireCount table) s u
-unfolding isBreaking
-shown-first table shares masks notion order s shown u w none = go (not-after (wireCount table) s u)
-  where
-    whole : (NotAfter (wireCount table) s u → ⊥) → (l : List Bool) (b : Bool) → isBreaking (notionOf notion) table shares masks (pick l u) ≡ b
-        → b ≡ false
-    whole before l false e = refl
-    whole before l true e = absurd (before (after-part (wireCount table) s u l (shown .first (pick l u) (pick-watched table order l u w) e)))
-
-    go : Dec (NotAfter (wireCount table) s u) → NotAfter (wireCount table) s u
-    go (yes h) = h
-    go (no before) =
-        absurd (none (choice (notionOf notion) shares masks (map (wireAt table) u)
-        (λ l. ap (breaks (notionOf notion) shares masks) (sym (pick-map (wireAt table) l u))
-        ∙ whole before l (isBreaking (notionOf notion) table shares masks (pick l u)) refl)))
-
 -- ---- a text that spells a description within the limits
 
 module _ (text : List ℕ) (d : Description) (spells : Spells text d) (limits : Limits text d) (few : length (wiresOf d) ≤ maxWires) where
@@ -283,56 +195,6 @@ module _ (text : List ℕ) (d : Description) (spells : Spells text d) (limits : 
         let tells = verdict-ordered (tableOf d) (sharesOf d) (masksOf d) notion (d .order) emptySet .1 ordered in
         values-refusal (tells .0) k (sym (tells .1) ∙ e)
 
-    says-notion : SaysNotion d notion (notionLine (tableOf d) (sharesOf d) (masksOf d) notion (d .order))
-    unfolding notionLine
-    says-notion =
-        subst (λ (lent : Lent). SaysNotion d notion (notionName notion ++ verdictSaid depends lent ++ bytes "\n"))
-        (sym (verdict-answered (tableOf d) (sharesOf d) (masksOf d) notion (d .order) emptySet ordered))
-        (by-sets found refl)
-      where
-        found : List (List ℕ)
-        found = keep (isBreaking (notionOf notion) (tableOf d) (sharesOf d) (masksOf d)) (searched (wireCount (tableOf d)) (d .order))
-
-        depends : List ℕ → Told
-        depends = setDependence (tableOf d) (sharesOf d) (masksOf d) notion
-
-        -- the word that stands after a set that leaks
-        word-says : (set : List ℕ) → Leaking (tableOf d) (sharesOf d) (masksOf d) notion set → NamesOperands d notion set (operands (depends set))
-        word-says set l =
-            subst (λ (t : Told). NamesOperands d notion set (operands t)) (sym (l .told))
-            (operands-named d notion set (ltb (l .most) (l .ofA)) (ltb (l .most) (l .ofB)) (Iff·trans (less (l .most) (l .ofA)) (l .by-a))
-            (Iff·trans (less (l .most) (l .ofB)) (l .by-b))
-            (⊎-elim (λ h. inl (lt-ltb (l .most) (l .ofA) h)) (λ h. inr (lt-ltb (l .most) (l .ofB) h)) (l .one)))
-
-        by-sets : (sets : List (List ℕ)) → found ≡ sets
-            → SaysNotion d notion (notionName notion ++ verdictSaid depends (firstShown sets emptySet) ++ bytes "\n")
-        by-sets [] e = record {
-          holds = (λ same. all-choose (tableOf d) (sharesOf d) (masksOf d) notion (d .order) e, λ all. refl);
-          broken = λ other. absurd (other refl);
-        }
-        by-sets (set ∷ later) e =
-            let none = shown-none (tableOf d) (sharesOf d) (masksOf d) notion (d .order) set later e in
-            let first = first-is (tableOf d) (sharesOf d) (masksOf d) notion (d .order) set later e in
-            let held = take (length set) (written set emptySet) in
-            record {
-              holds = (
-                λ same. absurd (holds-broken (notionName notion) (wireNumbers held) (operands (depends held)) same),
-                λ all. absurd (none .2 (all set (none .1))),
-              );
-              broken = λ other. record {
-                set = set;
-                word = operands (depends set);
-                shown = ap (λ (l : List ℕ). notionName notion ++ (bytes " broken" ++ wireNumbers l ++ operands (depends l)) ++ bytes "\n")
-                    (take-append-seam set (drop (length set) emptySet));
-                operands = word-says set
-                    (first-leaks (tableOf d) (sharesOf d) (masksOf d) notion (d .order) sound (ordered .known) (ordered .high) set first);
-                some = none .0;
-                watched = none .1;
-                no-choice = none .2;
-                first = shown-first (tableOf d) (sharesOf d) (masksOf d) notion (d .order) set first;
-              };
-            }
-
 -- ---- the report
 
 pub says : (text : List ℕ) (d : Description) → Spells text d → Limits text d → length (wiresOf d) ≤ maxWires → ReportSays text d
@@ -343,8 +205,8 @@ says text d spells limits few = record {
   sni = notionLine (tableOf d) (sharesOf d) (masksOf d) 2 (d .order);
   lines = read-report text (d .order) (masksOf d) (wiresOf d) (spelled-read text d spells limits) few;
   names = says-function text d spells limits few;
-  says-ni = says-notion text d spells limits few 1 (inl refl);
-  says-sni = says-notion text d spells limits few 2 (inr refl);
+  says-ni = line-says (tableOf d) (sharesOf d) (masksOf d) 1 (d .order) (ordered text d spells limits few 1 (inl refl));
+  says-sni = line-says (tableOf d) (sharesOf d) (masksOf d) 2 (d .order) (ordered text d spells limits few 2 (inr refl));
 }
 
 pub refuses : (text : List ℕ) → (Readable text maxTableBytes → ⊥) → Refuses text

@@ -1,44 +1,30 @@
 -- The whole report, by what was told.
 --     page-bytes                                   how long a page is that is never too short
---     part-start, take-few                         the part of a list from its start on, which is no longer than it
---     shown-few                                    a set that is shown has no more wires than the buffer has room for
---     depends-said, not-said                       which operands are named
---     holds-said, broken-said, refused-said        what a verdict says
 --     room-read                                    the records of a text that was read are within the table
 --     refused-reported, read-reported              the report on a text that is turned down, and on one that was read
 --     report-short, report-written                 a buffer that is too short, and one that is not
 --     room-refused, room-written                   a report of at most 512 bytes, refused and written
-use Prim.Native.Nat.{ℕ, zero, suc, _+_, _*_, _-_, _≤_, _<_}
+use Prim.Native.Nat.{ℕ, _+_, _*_, _-_, _≤_, _<_}
 use native.Mathlib.Omega.{arith}
 use mathlib.Core.Path.{_≡_, refl, sym, _∙_, ap, ap₂, subst}
 use mathlib.Core.Bool.{Bool, cond}
 use mathlib.Core.List.{List, [], _∷_, _++_}
-use lib.Dec.{ltb}
 use lib.ListN.{length, take, drop}
 use lib.Seq.{take-length}
 use borrow.Author.Tests.{lt-ltb, le-ltb}
 use Rattle.limits.specs.Limits.{recordBytes}
-use Rattle.basics.specs.Quoted.{bytes}
-use Rattle.basics.specs.Told.{Told, Lent, values, turnedDown}
+use Rattle.basics.specs.Told.{Lent, values, turnedDown}
 use Rattle.description.specs.Run as description
 use Rattle.reader.specs.declared.ReadAnswer.{ReadAnswer}
 use Rattle.reader.specs.Answers.{ReadLent, readTold, readText}
 use Rattle.reader.specs.Reads.{ReadsGrammar}
 use Rattle.verdict.specs.declared.Refusal.{Refusal}
-use Rattle.verdict.specs.declared.VerdictAnswer.{VerdictAnswer}
-use Rattle.verdict.specs.declared.DependenceAnswer.{DependenceAnswer}
 use Rattle.verdict.specs.Answers as verdicts
-use Rattle.verdict.specs.Guarantee.{Guarantee}
 use Rattle.description.specs.declared.Refusal as reading
 use Rattle.report_text.specs.declared.Refusal as report-texts
 use Rattle.report_text.specs.declared.ReportAnswer.{ReportAnswer}
-use Rattle.pages.specs.Decimal.{decimal}
 use Rattle.pages.specs.Page.{Wrote}
 use Rattle.report_text.specs.Report.{
-  operandsNamed,
-  operands,
-  brokenSaid,
-  verdictSaid,
   orderLine,
   checked,
   refusedLine,
@@ -49,54 +35,7 @@ use Rattle.report_text.specs.Report.{
   maxReport,
   RoomEnough,
 }
-use Rattle.pages.proofs.Writing.{wrote-after}
-
-part-start : (n : ℕ) (l : List ℕ) → take (n - 0) l ≡ take n l
-part-start n l = let e : n - 0 ≡ n = omega arith in ap {B = List ℕ} (λ k. take k l) e
-
-take-few : (n : ℕ) (l : List ℕ) → length (take n l) ≤ length l
-take-few zero l = omega arith
-take-few (suc n) [] = omega arith
-take-few (suc n) (x ∷ l) = let h = take-few n l in omega (arith, h)
-
-module _ (answer : VerdictAnswer) (held : List ℕ) where
-  pub shown-few : (table : List ℕ) (shares masks notion order size : ℕ) → answer ≡ VerdictAnswer.Broken size
-      → Guarantee answer table shares masks notion order held → size ≤ length held
-  shown-few table shares masks notion order size e g = omega (arith, g .broken-shows size e .whole, take-few size held)
-
-module _ (depends : List ℕ → Told) (answer : VerdictAnswer) (held : List ℕ) (lent : Lent) (told : verdicts.verdictTold answer held ≡ lent) where
-  module _ (page : List ℕ) (at : ℕ) (after : List ℕ) (end : ℕ) where
-    told-said : (of : VerdictAnswer) → answer ≡ of → Wrote page at (verdictSaid depends (verdicts.verdictTold of held)) after end
-        → Wrote page at (verdictSaid depends lent) after end
-    told-said of e w =
-        subst (λ (l : Lent). Wrote page at (verdictSaid depends l) after end) (ap (λ (a : VerdictAnswer). verdicts.verdictTold a held) (sym e) ∙ told) w
-
-    pub holds-said : answer ≡ VerdictAnswer.Holds → Wrote page at (bytes " holds") after end → Wrote page at (verdictSaid depends lent) after end
-    holds-said e w = told-said VerdictAnswer.Holds e w
-
-    pub broken-said : (size : ℕ) → answer ≡ VerdictAnswer.Broken size → Wrote page at (brokenSaid depends (take (size - 0) held)) after end
-        → Wrote page at (verdictSaid depends lent) after end
-    broken-said size e w =
-        told-said (VerdictAnswer.Broken size) e (subst (λ (l : List ℕ). Wrote page at (brokenSaid depends l) after end) (part-start size held) w)
-
-    pub refused-said : (why : Refusal) (number : ℕ) → answer ≡ VerdictAnswer.Refused why → number ≡ verdicts.refusalNumber why
-        → Wrote page at (bytes " refused " ++ decimal number) after end → Wrote page at (verdictSaid depends lent) after end
-    refused-said why number e f w =
-        told-said (VerdictAnswer.Refused why) e (subst (λ (n : ℕ). Wrote page at (bytes " refused " ++ decimal n) after end) f w)
-
--- what is told of a set's dependence, by the answer
-module _ (answer : DependenceAnswer) (told : Told) (e : verdicts.dependenceTold answer ≡ told) (page : List ℕ) (at : ℕ) (after : List ℕ) (end : ℕ) where
-  told-operands : (of : DependenceAnswer) → answer ≡ of → Wrote page at (operands (verdicts.dependenceTold of)) after end
-      → Wrote page at (operands told) after end
-  told-operands of f w =
-      subst (λ (t : Told). Wrote page at (operands t) after end) (ap verdicts.dependenceTold (sym f) ∙ e) w
-
-  pub depends-said : (ofA ofB most : ℕ) (left : Bool) → answer ≡ DependenceAnswer.Depends ofA ofB most left
-      → Wrote page at (operandsNamed (ltb most ofA) (ltb most ofB)) after end → Wrote page at (operands told) after end
-  depends-said ofA ofB most left f w = told-operands (DependenceAnswer.Depends ofA ofB most left) f w
-
-  pub not-said : (why : Refusal) → answer ≡ DependenceAnswer.Refused why → Wrote page at [] after end → Wrote page at (operands told) after end
-  not-said why f w = told-operands (DependenceAnswer.Refused why) f w
+use Rattle.pages.proofs.Writing.{part-start, wrote-after}
 
 -- ---- what was read
 

@@ -1,20 +1,17 @@
--- The lines of the report, by what the checks told.
+-- The line of the function, by what its check told.
 --     Named, wrote-product, wrote-sum, wrote-last           the function's name, by what the function check says to each
---     wrote-ni, wrote-sni                                   the notion's name
---     wrote-operands                                        the operands that are named
 --     yes-said, no-said, none-said                          what the function check's answer says
 use Prim.Native.Nat.{ℕ}
 use mathlib.Core.Path.{_≡_, sym, _∙_, ap, subst}
 use mathlib.Core.Bool.{Bool, true, false, cond}
 use mathlib.Core.List.{List, _++_}
-use borrow.Author.Tests.{eq-eqb, ne-eqb}
 use Rattle.basics.specs.Quoted.{bytes}
 use Rattle.basics.specs.Told.{Told}
 use Rattle.table.specs.declared.Refusal.{Refusal}
 use Rattle.table.specs.declared.FunctionAnswer.{FunctionAnswer}
 use Rattle.table.specs.Answers.{functionTold, functionCheck}
 use Rattle.pages.specs.Page.{Wrote}
-use Rattle.report_text.specs.Report.{saysYes, functionLine, operandsNamed, notionName}
+use Rattle.report_text.specs.Report.{saysYes, functionLine}
 
 module _ (page : List ℕ) (at : ℕ) (after : List ℕ) (end : ℕ) where
   -- whether the function is the product, the sum, a copy
@@ -44,17 +41,6 @@ module _ (page : List ℕ) (at : ℕ) (after : List ℕ) (end : ℕ) where
     wrote-last c e f g w =
         subst (λ (b : Bool). Named b (says 2) (says 3)) (sym e)
         (subst (λ (b : Bool). Named false b (says 3)) (sym f) (subst (λ (b : Bool). Named false false b) (sym g) w))
-
-  pub wrote-ni : (notion : ℕ) → notion ≡ 1 → Wrote page at (bytes "NI") after end → Wrote page at (notionName notion) after end
-  wrote-ni notion e w = subst (λ (b : Bool). Wrote page at (cond b (bytes "NI") (bytes "SNI")) after end) (sym (eq-eqb notion 1 e)) w
-
-  pub wrote-sni : (notion : ℕ) → (notion ≡ 1 → ⊥) → Wrote page at (bytes "SNI") after end → Wrote page at (notionName notion) after end
-  wrote-sni notion e w = subst (λ (b : Bool). Wrote page at (cond b (bytes "NI") (bytes "SNI")) after end) (sym (ne-eqb notion 1 e)) w
-
-  pub wrote-operands : (a b x y : Bool) → a ≡ x → b ≡ y → Wrote page at (operandsNamed x y) after end → Wrote page at (operandsNamed a b) after end
-  wrote-operands a b x y e f w =
-      subst (λ (k : Bool). Wrote page at (operandsNamed k b) after end) (sym e)
-      (subst (λ (k : Bool). Wrote page at (operandsNamed x k) after end) (sym f) w)
 
 -- the function check's answer, by what it tells
 pub yes-said : (answer : FunctionAnswer) (told : Told) → answer ≡ FunctionAnswer.Yes → functionTold answer ≡ told → true ≡ saysYes told

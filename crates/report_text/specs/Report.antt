@@ -1,29 +1,27 @@
 -- The report on a text (scope, "Report program and examples"), over what reading, the function check and the verdicts are to tell.
 --     orderLine                     order, shares, mask count and wire count
 --     saysYes, functionName, functionLine     which function the function check says yes to
---     operandsNamed, operands       the operands that leak by a set, from what is told of its dependence
---     notionName, brokenSaid, said, verdictSaid, notionLine     what a verdict says
 --     checked                       the line of the function and those of both notions
 --     refusedLine                   the one line of a text that is turned down
---     emptyTable, emptySet          what is lent to the reading and to a verdict
+--     emptyTable                    what is lent to the reading
 --     reported, readReported, report     the whole report
 --     refusalNumber, reportTold     the number of a refusal, and what the code's answer tells, with what the lent buffer then holds
 --     reportText                    what the entry is to tell, and what the buffer is to hold
 --     maxReport, RoomEnough         a report is never longer than so many bytes, and a buffer of as many never refused
 use Prim.Native.Nat.{ℕ, _*_, _≤_, _<_}
 use mathlib.Core.Path.{_≡_}
-use mathlib.Core.Bool.{Bool, true, false, cond}
+use mathlib.Core.Bool.{Bool, false, cond}
 use mathlib.Core.List.{List, [], _∷_, _++_}
 use lib.Dec.{eqb, ltb}
 use lib.ListN.{length, take, replicate}
-use Rattle.limits.specs.Limits.{recordBytes, maxTableBytes, maxSize}
+use Rattle.limits.specs.Limits.{recordBytes, maxTableBytes}
 use Rattle.basics.specs.Quoted.{bytes}
 use Rattle.basics.specs.Told.{Told, Lent, values, refusal, turnedDown}
 use Rattle.table.specs.Answers.{functionCheck}
-use Rattle.verdict.specs.Answers.{verdictOf, setDependence, written}
+use Rattle.verdict.specs.Answers.{written}
 use Rattle.reader.specs.Answers.{ReadTold, gives, refused, ReadLent, readText}
 use Rattle.pages.specs.Decimal.{decimal}
-use Rattle.pages.specs.Page.{wireNumbers}
+use Rattle.verdict_lines.specs.Lines.{notionLine}
 use Rattle.report_text.specs.declared.Refusal.{Refusal}
 use Rattle.report_text.specs.declared.ReportAnswer.{ReportAnswer}
 
@@ -49,46 +47,6 @@ functionName table shares masks =
 
 unfoldable pub functionLine : List ℕ → ℕ → ℕ → List ℕ
 functionLine table shares masks = bytes "function " ++ functionName table shares masks ++ bytes "\n"
-
-abbrev pub notionName : ℕ → List ℕ
-notionName notion = cond (eqb notion 1) (bytes "NI") (bytes "SNI")
-
--- the operands whose count exceeds what the notion allows the set; of a set that a verdict shows one does (`says`)
-abbrev pub operandsNamed : Bool → Bool → List ℕ
-operandsNamed true true = bytes " by both"
-operandsNamed true false = bytes " by a"
-operandsNamed false true = bytes " by b"
-operandsNamed false false = []
-
--- the counts of a and of b, and what the notion allows
-abbrev pub operands : Told → List ℕ
-operands (values (ofA ∷ ofB ∷ most ∷ more)) = operandsNamed (ltb most ofA) (ltb most ofB)
-operands (values (ofA ∷ ofB ∷ [])) = []
-operands (values (ofA ∷ [])) = []
-operands (values []) = []
-operands (refusal number) = []
-
--- the numbers of the wires shown, and the operands that leak by them
-abbrev pub brokenSaid : (List ℕ → Told) → List ℕ → List ℕ
-brokenSaid depends set = bytes " broken" ++ wireNumbers set ++ operands (depends set)
-
--- holds, or broken with the set shown; of a table that was read no verdict is refused (`read-accepted`)
-abbrev pub said : (List ℕ → Told) → Told → List ℕ → List ℕ
-said depends (values []) set = bytes " holds"
-said depends (values (size ∷ more)) set = brokenSaid depends (take size set)
-said depends (refusal number) set = bytes " refused " ++ decimal number
-
-abbrev pub verdictSaid : (List ℕ → Told) → Lent → List ℕ
-verdictSaid depends lent = said depends (lent .told) (lent .held)
-
-abbrev pub emptySet : List ℕ
-emptySet = replicate maxSize 0
-
-unfoldable pub notionLine : List ℕ → ℕ → ℕ → ℕ → ℕ → List ℕ
-notionLine table shares masks notion order =
-    notionName notion
-    ++ verdictSaid (setDependence table shares masks notion) (verdictOf table shares masks notion order emptySet)
-    ++ bytes "\n"
 
 -- the function and both verdicts at the text's own order
 unfoldable pub checked : List ℕ → ℕ → ℕ → ℕ → List ℕ

@@ -1,12 +1,12 @@
--- `report_text::lines::operands_named` meets its contract: the word by the two tests.
+-- `verdict_lines::operands_named` meets its contract: the word by the two tests.
 -- Assumes nothing.
 use native.Mathlib.Omega.{arith}
 use mathlib.Core.Bool.{true, false}
 use Rattle.pages.proofs.Writing.{wrote-nothing}
-use Rattle.report_text.proofs.Saying.{wrote-operands}
+use Rattle.verdict_lines.proofs.Saying.{wrote-operands}
 use borrow.Author.Needs.{needs}
-use Rattle.report_text.proofs.lines.operands_named.Statement.{statement}
-use Rattle.report_text.proofs.lines.operands_named.Tie as tie
+use Rattle.verdict_lines.proofs.operands_named.Statement.{statement}
+use Rattle.verdict_lines.proofs.operands_named.Tie as tie
 
 slice-aggregate-write-text : tie.Need-slice-aggregate-write-text
 slice-aggregate-write-text c = search needs

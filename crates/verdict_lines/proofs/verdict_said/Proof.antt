@@ -1,10 +1,10 @@
--- `report_text::lines::verdict_said` meets its contract: it says what the verdict's answer tells.
+-- `verdict_lines::verdict_said` meets its contract: it says what the verdict's answer tells.
 -- Assumes nothing.
 use native.Mathlib.Omega.{arith}
-use Rattle.report_text.proofs.Reporting.{shown-few, holds-said, broken-said, refused-said}
+use Rattle.verdict_lines.proofs.Saying.{shown-few, holds-said, broken-said, refused-said}
 use borrow.Author.Needs.{needs}
-use Rattle.report_text.proofs.lines.verdict_said.Statement.{statement}
-use Rattle.report_text.proofs.lines.verdict_said.Tie as tie
+use Rattle.verdict_lines.proofs.verdict_said.Statement.{statement}
+use Rattle.verdict_lines.proofs.verdict_said.Tie as tie
 
 slice-aggregate-verdict : tie.Need-slice-aggregate-verdict
 slice-aggregate-verdict c = search needs

@@ -1,11 +1,11 @@
--- `report_text::lines::operands_said` meets its contract: it says what is told of the set's dependence.
+-- `verdict_lines::operands_said` meets its contract: it says what is told of the set's dependence.
 -- Assumes nothing.
 use native.Mathlib.Omega.{arith}
 use Rattle.pages.proofs.Writing.{wrote-nothing}
-use Rattle.report_text.proofs.Reporting.{depends-said, not-said}
+use Rattle.verdict_lines.proofs.Saying.{depends-said, not-said}
 use borrow.Author.Needs.{needs}
-use Rattle.report_text.proofs.lines.operands_said.Statement.{statement}
-use Rattle.report_text.proofs.lines.operands_said.Tie as tie
+use Rattle.verdict_lines.proofs.operands_said.Statement.{statement}
+use Rattle.verdict_lines.proofs.operands_said.Tie as tie
 
 set-dependence-requires : tie.Need-set-dependence-requires
 set-dependence-requires c κs = search needs

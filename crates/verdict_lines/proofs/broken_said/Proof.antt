@@ -1,10 +1,10 @@
--- `report_text::lines::broken_said` meets its contract: its parts are written one after the other.
+-- `verdict_lines::broken_said` meets its contract: its parts are written one after the other.
 -- Assumes nothing.
 use native.Mathlib.Omega.{arith}
 use Rattle.pages.proofs.Writing.{wrote-after}
 use borrow.Author.Needs.{needs}
-use Rattle.report_text.proofs.lines.broken_said.Statement.{statement}
-use Rattle.report_text.proofs.lines.broken_said.Tie as tie
+use Rattle.verdict_lines.proofs.broken_said.Statement.{statement}
+use Rattle.verdict_lines.proofs.broken_said.Tie as tie
 
 slice-aggregate-write-text : tie.Need-slice-aggregate-write-text
 slice-aggregate-write-text c = search needs

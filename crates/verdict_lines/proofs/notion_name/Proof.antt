@@ -1,10 +1,10 @@
--- `report_text::lines::notion_name` meets its contract.
+-- `verdict_lines::notion_name` meets its contract.
 -- Assumes nothing.
 use native.Mathlib.Omega.{arith}
-use Rattle.report_text.proofs.Saying.{wrote-ni, wrote-sni}
+use Rattle.verdict_lines.proofs.Saying.{wrote-ni, wrote-sni}
 use borrow.Author.Needs.{needs}
-use Rattle.report_text.proofs.lines.notion_name.Statement.{statement}
-use Rattle.report_text.proofs.lines.notion_name.Tie as tie
+use Rattle.verdict_lines.proofs.notion_name.Statement.{statement}
+use Rattle.verdict_lines.proofs.notion_name.Tie as tie
 
 slice-aggregate-write-text : tie.Need-slice-aggregate-write-text
 slice-aggregate-write-text c = search needs

@@ -1,11 +1,11 @@
--- `report_text::lines::notion_line` meets its contract: its parts are written one after the other.
+-- `verdict_lines::notion_line` meets its contract: its parts are written one after the other.
 -- Assumes nothing.
 use native.Mathlib.Omega.{arith}
 use Rattle.pages.proofs.Writing.{wrote-after}
 use borrow.Author.Needs.{needs}
-use Rattle.report_text.specs.Report.{notionLine}
-use Rattle.report_text.proofs.lines.notion_line.Statement.{statement}
-use Rattle.report_text.proofs.lines.notion_line.Tie as tie
+use Rattle.verdict_lines.specs.Lines.{notionLine}
+use Rattle.verdict_lines.proofs.notion_line.Statement.{statement}
+use Rattle.verdict_lines.proofs.notion_line.Tie as tie
 
 notion-name-requires : tie.Need-notion-name-requires
 notion-name-requires c κs = search needs
