@@ -69,7 +69,7 @@ static int check_size(const struct gadget *g, const char *name, size_t notion, s
     if (clean)
         printf("clean\n");
     else
-        printf("broken at rank %" PRIu64 " by", rank);
+        printf("broken at rank %" PRIu64 ", wires", rank);
     for (size_t i = 0; i < found; i++)
         printf(i + 1 < found ? " %u" : " %u\n", (unsigned)set[i]);
     flush();

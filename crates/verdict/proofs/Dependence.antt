@@ -3,6 +3,7 @@
 --     DependencePromise            the whole of the entry's promise
 --     refused-first, set-too-large, not-rising, set-counted     the entry's answers, path by path
 --     rising-inside                a set that passes the test is inside the table
+--     counts-leak                  of any set without masks: an operand leaks whose count is above what is allowed
 --     first-leaks                  what is told of the first breaking set, in the watcher's words
 --     shown-leaks                  and so of the set that a verdict shows, whatever is lent to it
 use Prim.Native.Nat.{ℕ, _≤_, _<_}
@@ -24,7 +25,7 @@ use Rattle.wires.proofs.Breaks.{breaks-counts}
 use Rattle.wires.proofs.Changes.{set-depends}
 use Rattle.wires.proofs.Narrow.{within-total, countA-narrow, countB-narrow, masked-narrow}
 use Rattle.watcher.proofs.Bits.{pick, pick-map}
-use Rattle.watcher.proofs.Choice.{leaks-a, leaks-b}
+use Rattle.watcher.proofs.Choice.{exceeds-leaks-a, exceeds-leaks-b, leaks-a, leaks-b}
 use Rattle.records.specs.Layout.{wireAt, wireCount, inside}
 use Rattle.table.specs.Answers.{tableCheck}
 use Rattle.table.proofs.Conditions.{accepted-exactly}
@@ -41,7 +42,7 @@ use Rattle.verdict.specs.declared.DependenceAnswer.{DependenceAnswer}
 use Rattle.verdict.specs.Answers.{refusalNumber, dependenceTold, notionOf, openedTold, opens, depended, verdictOf, setDependence}
 use Rattle.verdict.specs.Conditions.{WrongNotion}
 use Rattle.verdict.specs.First.{NotAfter, FirstBreaking}
-use Rattle.verdict.specs.Dependence.{SetAsked, DependenceMeans, Leaking}
+use Rattle.verdict.specs.Dependence.{SetAsked, DependenceMeans, LeaksA, LeaksB, Leaking}
 use Rattle.verdict.proofs.Admitting.{opened-answer, opened-refusal}
 use Rattle.verdict.proofs.Conditions.{verdict-ordered, dependence-asked, dependence-answered}
 use Rattle.verdict.proofs.Watching.{pick-watched}
@@ -181,6 +182,18 @@ module _ (table : List ℕ) (shares masks notion : ℕ) (set : List ℕ) where
                 countB-narrow maxShares maxMasks shares masks (o .high) (o .few) s w,
                 masked-narrow maxShares maxMasks shares masks (o .high) (o .few) s w,
               )
+
+-- ---- which operand leaks
+
+pub counts-leak : (table : List ℕ) (shares masks notion : ℕ) (set : List ℕ) (ofA ofB most : ℕ)
+    → setDependence table shares masks notion set ≡ values (ofA ∷ ofB ∷ most ∷ 0 ∷ [])
+    → (most < ofA → LeaksA table shares masks notion set) × (most < ofB → LeaksB table shares masks notion set)
+counts-leak table shares masks notion set ofA ofB most e =
+    let c = counted table shares masks notion set ofA ofB most false (sym e) in
+    let v = map (wireAt table) set in (
+      λ more. exceeds-leaks-a (notionOf notion) shares masks v (c .3) (omega (arith, more, c .0, c .2)),
+      λ more. exceeds-leaks-b (notionOf notion) shares masks v (c .3) (omega (arith, more, c .1, c .2)),
+    )
 
 -- ---- the set that a verdict shows
 

@@ -9,8 +9,9 @@
 --     all-chosen       and no fewer than those on which the sum of the whole set depends, where it has no mask
 --     choice           where no part of a set breaks the notion it admits one
 --     no-choice        a set that breaks the notion admits none
---     leaks-a, leaks-b     of a set of which no smaller part breaks the notion: one operand exceeds exactly when there is no choice even if every
---                      share of the other may be chosen
+--     exceeds-leaks-a, exceeds-leaks-b     of a set without masks that depends on more shares of one operand than the notion allows there is no
+--                      choice even if every share of the other may be chosen
+--     leaks-a, leaks-b     and of a set of which no smaller part breaks the notion exactly then
 use Prim.Native.Nat.{ℕ, _≤_, _<_}
 use native.Mathlib.Decide.{decLt}
 use native.Mathlib.Nat.{le-trans}
@@ -140,23 +141,18 @@ module _ (notion : Notion) (n m : ℕ) (v : List Wire) (g : Terms → Terms) (o 
       (ap (λ (s : List Wire). dependsA n (g (total s)) i) (pick-all v) ∙ d)))
 
   -- a set of which no smaller part breaks: where the whole set depends on few enough shares of the operand, so does every part
-  exceeds-exactly : masked m (total v) ≡ false → ((l : List Bool) → length (pick l v) < length v → breaks notion n m (pick l v) ≡ false)
-      → (allowed notion v < countA n (g (total v))) ↔ (count (chosen n m v g) (upTo n) ≤ allowed notion v → ⊥)
-  exceeds-exactly unmasked smaller = (
-    λ more most. omega (arith, more, most, all-chosen unmasked),
-    λ never. by-count never (decLt (allowed notion v) (countA n (g (total v)))),
-  )
+  exceeds-otherwise : ((l : List Bool) → length (pick l v) < length v → breaks notion n m (pick l v) ≡ false)
+      → (count (chosen n m v g) (upTo n) ≤ allowed notion v → ⊥) → allowed notion v < countA n (g (total v))
+  exceeds-otherwise smaller never = by-count (decLt (allowed notion v) (countA n (g (total v))))
     where
-      by-count : (count (chosen n m v g) (upTo n) ≤ allowed notion v → ⊥) → Dec (allowed notion v < countA n (g (total v)))
-          → allowed notion v < countA n (g (total v))
-      by-count never (yes more) = more
-      by-count never (no less) = absurd (never (few-chosen (λ l e. by-part l e (pick-size l v))))
-        where
-          by-part : (l : List Bool) → free m v l ≡ true → (length (pick l v) < length v) ⊎ (pick l v ≡ v)
-              → countA n (g (total (pick l v))) ≤ allowed notion (pick l v)
-          by-part l e (inl shorter) = o .bounded (pick l v) (smaller l shorter) e
-          by-part l e (inr all) =
-              omega (arith, ap (λ (s : List Wire). countA n (g (total s))) all, ap (allowed notion) all)
+      by-part : (l : List Bool) → free m v l ≡ true → countA n (g (total v)) ≤ allowed notion v → (length (pick l v) < length v) ⊎ (pick l v ≡ v)
+          → countA n (g (total (pick l v))) ≤ allowed notion (pick l v)
+      by-part l e within (inl shorter) = o .bounded (pick l v) (smaller l shorter) e
+      by-part l e within (inr all) = omega (arith, within, ap (λ (s : List Wire). countA n (g (total s))) all, ap (allowed notion) all)
+
+      by-count : Dec (allowed notion v < countA n (g (total v))) → allowed notion v < countA n (g (total v))
+      by-count (yes more) = more
+      by-count (no less) = absurd (never (few-chosen (λ l e. by-part l e (omega arith) (pick-size l v))))
 
 pub choice : (notion : Notion) (n m : ℕ) (v : List Wire) → ((l : List Bool) → breaks notion n m (pick l v) ≡ false) → Choice notion n m v
 choice notion n m v whole =
@@ -182,20 +178,30 @@ no-choice notion n m v e c = go (h .exceeds)
     go (inl more) = omega (arith, all-chosen notion n m v (λ t. t) (operand-a notion n m) unmasked, few-of .0)
     go (inr more) = omega (arith, all-chosen notion n m v swap (operand-b notion n m) unmasked, few-of .1)
 
-module _ (notion : Notion) (n m : ℕ) (v : List Wire) (unmasked : masked m (total v) ≡ false)
-    (smaller : (l : List Bool) → length (pick l v) < length v → breaks notion n m (pick l v) ≡ false) where
-  -- there are no more than n shares to choose
-  enough : (g : Terms → Terms) → count (chosen n m v g) (upTo n) ≤ n
-  enough g = count-up-to n (chosen n m v g)
+module _ (notion : Notion) (n m : ℕ) (v : List Wire) (unmasked : masked m (total v) ≡ false) where
+  pub exceeds-leaks-a : allowed notion v < countA n (total v) → ChoiceByA notion n m v → ⊥
+  exceeds-leaks-a more c =
+      omega (arith, more, all-chosen notion n m v (λ t. t) (operand-a notion n m) unmasked, choice-exactly (allowed notion v) n n m v .0 c .0)
 
-  pub leaks-a : (allowed notion v < countA n (total v)) ↔ (ChoiceByA notion n m v → ⊥)
-  leaks-a =
-      let exactly = exceeds-exactly notion n m v (λ t. t) (operand-a notion n m) unmasked smaller in
-      let chooses = choice-exactly (allowed notion v) n n m v in
-      (λ more c. exactly .0 more (chooses .0 c .0), λ none. exactly .1 (λ most. none (chooses .1 (most, enough swap))))
+  pub exceeds-leaks-b : allowed notion v < countB n (total v) → ChoiceByB notion n m v → ⊥
+  exceeds-leaks-b more c =
+      omega (arith, more, all-chosen notion n m v swap (operand-b notion n m) unmasked, choice-exactly n (allowed notion v) n m v .0 c .1)
 
-  pub leaks-b : (allowed notion v < countB n (total v)) ↔ (ChoiceByB notion n m v → ⊥)
-  leaks-b =
-      let exactly = exceeds-exactly notion n m v swap (operand-b notion n m) unmasked smaller in
-      let chooses = choice-exactly n (allowed notion v) n m v in
-      (λ more c. exactly .0 more (chooses .0 c .1), λ none. exactly .1 (λ most. none (chooses .1 (enough (λ t. t), most))))
+  module _ (smaller : (l : List Bool) → length (pick l v) < length v → breaks notion n m (pick l v) ≡ false) where
+    -- there are no more than n shares to choose
+    enough : (g : Terms → Terms) → count (chosen n m v g) (upTo n) ≤ n
+    enough g = count-up-to n (chosen n m v g)
+
+    pub leaks-a : (allowed notion v < countA n (total v)) ↔ (ChoiceByA notion n m v → ⊥)
+    leaks-a = (
+      exceeds-leaks-a,
+      λ none. exceeds-otherwise notion n m v (λ t. t) (operand-a notion n m) smaller
+          (λ most. none (choice-exactly (allowed notion v) n n m v .1 (most, enough swap))),
+    )
+
+    pub leaks-b : (allowed notion v < countB n (total v)) ↔ (ChoiceByB notion n m v → ⊥)
+    leaks-b = (
+      exceeds-leaks-b,
+      λ none. exceeds-otherwise notion n m v swap (operand-b notion n m) smaller
+          (λ most. none (choice-exactly n (allowed notion v) n m v .1 (enough (λ t. t), most))),
+    )
