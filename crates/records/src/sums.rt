@@ -157,7 +157,7 @@ pub fn shares_seen(sum: Sum) -> ShareWords
 
 // On how many shares of a, and on how many of b, a sum depends.
 pub fn dependence(sum: Sum) -> ShareCounts
-    ensures { λ r. ⌜ (r .«of_a» ≡ countA maxShares (termsOf sum)) × (r .«of_b» ≡ countB maxShares (termsOf sum)) ⌝ }
+    ensures { λ r. ⌜ (r .«of_a» ≡ countA maxShares (termsOf sum)) × (r .«of_b» ≡ countB maxShares (termsOf sum)) × (r .«of_a» ≤ maxShares) × (r .«of_b» ≤ maxShares) ⌝ }
 {
     let words = shares_seen(sum);
     ShareCounts {

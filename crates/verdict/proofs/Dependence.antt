@@ -1,5 +1,6 @@
 -- Which operand leaks.
 --     means                        what an answer means follows from what it tells
+--     told-exactly                 which values are told of a set that no test turns down: just those that mean this
 --     DependencePromise            the whole of the entry's promise
 --     refused-first, set-too-large, not-rising, set-counted     the entry's answers, path by path
 --     rising-inside                a set that passes the test is inside the table
@@ -8,7 +9,7 @@
 --     shown-leaks                  and so of the set that a verdict shows, whatever is lent to it
 use Prim.Native.Nat.{ℕ, _≤_, _<_}
 use native.Mathlib.Omega.{arith}
-use mathlib.Core.Path.{_≡_, refl, sym, _∙_, ap, subst}
+use mathlib.Core.Path.{_≡_, refl, sym, _∙_, ap, ap₂, subst}
 use mathlib.Core.Logic.{_↔_, _⊎_, inl, inr}
 use mathlib.Core.Bool.{Bool, true, false, not, cond, _&&_}
 use mathlib.Core.List.{List, [], _∷_, map}
@@ -22,7 +23,7 @@ use Rattle.wires.specs.declared.Notion.{Notion}
 use Rattle.wires.specs.Wires.{Terms, Wire, total, countA, countB, masked, allowed, breaks}
 use Rattle.wires.specs.Dependence.{SetDepends}
 use Rattle.wires.proofs.Breaks.{breaks-counts}
-use Rattle.wires.proofs.Changes.{set-depends}
+use Rattle.wires.proofs.Changes.{set-depends, depends-once}
 use Rattle.wires.proofs.Narrow.{within-total, countA-narrow, countB-narrow, masked-narrow}
 use Rattle.watcher.proofs.Bits.{pick, pick-map}
 use Rattle.watcher.proofs.Choice.{exceeds-leaks-a, exceeds-leaks-b, leaks-a, leaks-b}
@@ -112,6 +113,19 @@ module _ (table : List ℕ) (shares masks notion : ℕ) (set : List ℕ) where
         depends = λ ofA ofB most left f. depends ofA ofB most left (told ofA ofB most left f);
         breaks-exactly = λ ofA ofB most left f. by-counts ofA ofB most left (told ofA ofB most left f);
       }
+
+  pub told-exactly : SetAsked table shares masks notion set → (ofA ofB most : ℕ) (left : Bool)
+      → (setDependence table shares masks notion set ≡ values (ofA ∷ ofB ∷ most ∷ oneIf left ∷ []))
+      ↔ SetDepends kind shares masks v ofA ofB most left
+  told-exactly asked ofA ofB most left = (
+    λ e. depends ofA ofB most left (counted ofA ofB most left (sym e)),
+    λ d. let s = total v in
+        let same = depends-once shares masks v (countA shares s) (countB shares s) (allowed kind v) ofA ofB most (masked masks s) left kind
+        (set-depends shares masks v kind) d in
+        dependence-answered table shares masks notion set asked
+        ∙ ap₂ (λ (i j : ℕ). values (i ∷ j ∷ allowed kind v ∷ oneIf (masked masks s) ∷ [])) (same .0) (same .1)
+        ∙ ap₂ (λ (i : ℕ) (x : Bool). values (ofA ∷ ofB ∷ i ∷ oneIf x ∷ [])) (same .2) (same .3),
+  )
 
 -- ---- the entry's answers, each with the whole of its promise
 

@@ -2,17 +2,21 @@
 --     sum-is            the sum of the values of wires is the value of their sum
 --     mask-exactly      a mask is left exactly when the value changes with some mask
 --     set-depends       the counts of a set, and what the notion allows it
-use Prim.Native.Nat.{ℕ, _<_}
+--     number-once       there is one number of those that are as a property says
+--     depends-once      and so one answer to what a set depends on
+use Prim.Native.Nat.{ℕ, _+_, _<_}
 use mathlib.Core.Path.{_≡_, refl, sym, _∙_, ap}
 use mathlib.Core.Logic.{_↔_}
 use mathlib.Core.Bool.{Bool, true, false, xor}
 use mathlib.Core.List.{List}
 use lib.Dec.{eqb}
-use Rattle.basics.proofs.Tests.{xor-false}
-use Rattle.basics.proofs.Folds.{some-where, some-at}
+use Rattle.basics.specs.Folds.{oneIf}
+use Rattle.basics.proofs.Tests.{bool-ext, xor-false}
+use Rattle.basics.proofs.Folds.{fold-below, some-where, some-at}
 use Rattle.wires.specs.declared.Notion.{Notion}
+use Rattle.wires.specs.declared.Notion.the-variants.{Ni, Sni}
 use Rattle.wires.specs.Wires.{Wire, Input, value, total, flipA, flipB, dependsA, dependsB, countA, countB, masked, allowed}
-use Rattle.wires.specs.Dependence.{sumShown, ChangesWithA, ChangesWithB, ChangesWithMask, SetDepends}
+use Rattle.wires.specs.Dependence.{sumShown, ChangesWithA, ChangesWithB, ChangesWithMask, NumberOf, SetDepends}
 use Rattle.wires.proofs.Value.{value-total, value-shift}
 use Rattle.wires.proofs.Dependence.{parity-one, changed, depends-exactly, depends-exactly-b}
 use Rattle.wires.proofs.Breaks.{allowed-ni}
@@ -82,3 +86,24 @@ module _ (n m : ℕ) (v : List Wire) where
             λ d. let w = exactly .0 d in (w .0, w .1, apart (w .0) (flipB j (w .0)) (w .1) (w .1) .0 (w .2)),
             λ c. exactly .1 (c .0, c .1, apart (c .0) (flipB j (c .0)) (c .1) (c .1) .1 (c .2)),
           )
+
+pub number-once : (n : ℕ) (P : ℕ → Type 0) (a b : ℕ) → NumberOf n P a → NumberOf n P b → a ≡ b
+number-once n P a b x y =
+    x .counted
+    ∙ fold-below _+_ 0 n (λ i. oneIf (x .test i)) (λ i. oneIf (y .test i))
+    (λ i below. ap oneIf (bool-ext (x .test i) (y .test i) (λ e. y .exactly i below .1 (x .exactly i below .0 e))
+    (λ e. x .exactly i below .1 (y .exactly i below .0 e))))
+    ∙ sym (y .counted)
+
+module _ (n m : ℕ) (v : List Wire) (a b k c d l : ℕ) (x y : Bool) where
+  pub depends-once : (notion : Notion) → SetDepends notion n m v a b k x → SetDepends notion n m v c d l y → (a ≡ c) × (b ≡ d) × (k ≡ l) × (x ≡ y)
+  depends-once notion p q = (
+    number-once n (ChangesWithA n m v) a c (p .shares-of-a) (q .shares-of-a),
+    number-once n (ChangesWithB n m v) b d (p .shares-of-b) (q .shares-of-b),
+    paid notion p q,
+    bool-ext x y (λ e. q .mask-left .1 (p .mask-left .0 e)) (λ e. p .mask-left .1 (q .mask-left .0 e)),
+  )
+    where
+      paid : (notion : Notion) → SetDepends notion n m v a b k x → SetDepends notion n m v c d l y → k ≡ l
+      paid Ni p q = p .allowed-ni refl ∙ sym (q .allowed-ni refl)
+      paid Sni p q = p .allowed-sni refl ∙ sym (q .allowed-sni refl)

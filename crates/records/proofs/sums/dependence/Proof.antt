@@ -25,6 +25,8 @@ returns c =
       seen-ones (termsOf sum) _ (c .before .before .shares-seen .ensures .0 .0) (c .before .before .shares-seen .ensures .0 .1),
       seen-ones
           (swap (termsOf sum)) _ (c .before .before .shares-seen .ensures .1 .0) (c .before .before .shares-seen .ensures .1 .1),
+      ones-le maxShares _ (c .before .before .shares-seen .ensures .0 .0),
+      ones-le maxShares _ (c .before .before .shares-seen .ensures .1 .0),
     )
 
 pub dependence-spec : {M : Type 1} → statement M
