@@ -243,11 +243,13 @@ calduvren_status calduvren_range_check(const uint8_t *table, size_t table_length
  * each the notion allows the set, and whether a mask is left in the sum. The set is any of up to 7 wires of the table,
  * also the empty one. It breaks the notion exactly where masked is 0 and of_a or of_b is above allowed.
  *
- * After a verdict that is broken, or a range check that is not clean, call it with the set shown and its size: an
- * operand leaks whose count is above allowed, one of the two or both. For such a set masked is 0.
+ * After a verdict that is broken call it with the set shown and its size: just the operands leak whose count is above
+ * allowed, one of the two or both. After a range check that is not clean these leak too, and the other one may leak by
+ * a smaller part of the set. For such sets masked is 0; where it is 1, the masks hide what the set depends on.
  *
  * Written: of_a and of_b, also where a mask is left; allowed, which is how many wires the set has (for SNI, inner
- * wires); masked, 1 or 0.
+ * wires); masked, 1 or 0. With a refusal they are as they were: look at the status first, since numbers that were 0
+ * before the call read as a set that breaks nothing.
  *
  * Refusals:
  *   11  shares not 2 to 8, or masks over 64

@@ -32,7 +32,7 @@ static void expect_answer(calduvren_status status)
 static void print_verdict(const struct gadget *g, const char *name, size_t notion)
 {
     uint16_t set[CALDUVREN_MAX_ORDER];
-    uint64_t holds = 0, masked = 1; /* masked is 0 for every set that a verdict shows */
+    uint64_t holds = 0, masked = 1; /* for a set that a verdict shows masked is 0, and of_a or of_b is above allowed */
     size_t size = 0, of_a = 0, of_b = 0, allowed = 0;
     expect_answer(calduvren_verdict(g->table, g->table_length, g->shares, g->masks, notion, g->order,
                                     set, CALDUVREN_MAX_ORDER, &holds, &size));

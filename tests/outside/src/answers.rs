@@ -95,7 +95,7 @@ pub const REQUIRED: [(Entry, &str, &[Answer]); 11] = [
         Entry::SetDependence,
         "set_dependence",
         &[
-            (0, "breaks by a"),
+            (0, "by a"),
             (0, "by b"),
             (0, "by both"),
             (0, "breaks nothing"),

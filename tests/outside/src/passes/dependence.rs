@@ -53,7 +53,9 @@ pub fn run(random: &mut Random, tally: &mut Tally) {
 
 fn small_table(random: &mut Random) -> Table {
     let (shares, wires) = (random.between(2, MAX_SHARES), random.between(0, MOST_WIRES));
-    let masks = random.pick(&[0, 1, 2, 3, MAX_MASKS]);
+    let few = random.below(4);
+    let any = random.between(0, MAX_MASKS);
+    let masks = random.pick(&[few, few, any, any, MAX_MASKS]);
     match random.below(3) {
         0 => loose(random, shares, masks, wires),
         1 => circuit(random, shares, masks, wires.max(1)),
@@ -116,7 +118,7 @@ pub fn word(model: &Reply) -> &'static str {
     match (masked, of_a > allowed, of_b > allowed) {
         (1, _, _) => "masked",
         (_, true, true) => "by both",
-        (_, true, false) => "breaks by a",
+        (_, true, false) => "by a",
         (_, false, true) => "by b",
         (_, false, false) => "breaks nothing",
     }
@@ -138,7 +140,7 @@ fn set_of(random: &mut Random, wires: usize, size: usize) -> Vec<u16> {
 
 /// A set that may have too many wires, or wires that do not rise or that are not there.
 fn damaged_set(random: &mut Random, wires: usize) -> Vec<u16> {
-    let size = random.pick(&[0, 1, 2, 3, 7, 8, 9, 20]);
+    let size = random.pick(&[0, 1, 2, 3, 4, 5, 6, 7, 8, 9, 20]);
     let below = wires.max(size) + random.below(3);
     let mut set = set_of(random, below, size);
     if size > 0 {
