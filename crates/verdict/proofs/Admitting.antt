@@ -1,4 +1,4 @@
--- The tests that both entries begin with.
+-- The tests that every entry begins with.
 --     open-refused, open-known, open-wrong     what `opening` tells
 --     Opens                                    what it says where it refuses nothing: an accepted table, and the notion of its number
 --     opens-notion                             that is so where it tells a notion

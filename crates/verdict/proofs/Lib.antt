@@ -1,6 +1,6 @@
 -- The theorems on verdicts.
 --     Conditions  which call gets which number
---     Admitting   the tests that both entries begin with
+--     Admitting   the tests that every entry begins with
 --     Writing     a set copied to the start of a buffer
 --     Watching    demand 3
 --     Entries     the verdict's answers, path by path
