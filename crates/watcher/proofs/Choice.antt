@@ -178,30 +178,39 @@ no-choice notion n m v e c = go (h .exceeds)
     go (inl more) = omega (arith, all-chosen notion n m v (λ t. t) (operand-a notion n m) unmasked, few-of .0)
     go (inr more) = omega (arith, all-chosen notion n m v swap (operand-b notion n m) unmasked, few-of .1)
 
-module _ (notion : Notion) (n m : ℕ) (v : List Wire) (unmasked : masked m (total v) ≡ false) where
-  pub exceeds-leaks-a : allowed notion v < countA n (total v) → ChoiceByA notion n m v → ⊥
-  exceeds-leaks-a more c =
-      omega (arith, more, all-chosen notion n m v (λ t. t) (operand-a notion n m) unmasked, choice-exactly (allowed notion v) n n m v .0 c .0)
+module _ (notion : Notion) (n m : ℕ) (v : List Wire) where
+  -- there are no more than n shares to choose
+  enough : (g : Terms → Terms) → count (chosen n m v g) (upTo n) ≤ n
+  enough g = count-up-to n (chosen n m v g)
 
-  pub exceeds-leaks-b : allowed notion v < countB n (total v) → ChoiceByB notion n m v → ⊥
-  exceeds-leaks-b more c =
-      omega (arith, more, all-chosen notion n m v swap (operand-b notion n m) unmasked, choice-exactly n (allowed notion v) n m v .0 c .1)
+  -- where every share of the other operand may be chosen, one operand's shares decide
+  choice-by-a : ChoiceByA notion n m v ↔ (count (chosen n m v (λ t. t)) (upTo n) ≤ allowed notion v)
+  choice-by-a = let exactly = choice-exactly (allowed notion v) n n m v in (λ c. exactly .0 c .0, λ most. exactly .1 (most, enough swap))
 
-  module _ (smaller : (l : List Bool) → length (pick l v) < length v → breaks notion n m (pick l v) ≡ false) where
-    -- there are no more than n shares to choose
-    enough : (g : Terms → Terms) → count (chosen n m v g) (upTo n) ≤ n
-    enough g = count-up-to n (chosen n m v g)
+  choice-by-b : ChoiceByB notion n m v ↔ (count (chosen n m v swap) (upTo n) ≤ allowed notion v)
+  choice-by-b = let exactly = choice-exactly n (allowed notion v) n m v in (λ c. exactly .0 c .1, λ most. exactly .1 (enough (λ t. t), most))
 
-    pub leaks-a : (allowed notion v < countA n (total v)) ↔ (ChoiceByA notion n m v → ⊥)
-    leaks-a = (
-      exceeds-leaks-a,
-      λ none. exceeds-otherwise notion n m v (λ t. t) (operand-a notion n m) smaller
-          (λ most. none (choice-exactly (allowed notion v) n n m v .1 (most, enough swap))),
-    )
+  module _ (unmasked : masked m (total v) ≡ false) where
+    exceeds-leaks : (g : Terms → Terms) → Operand notion n m g → {C : Type 0} → C ↔ (count (chosen n m v g) (upTo n) ≤ allowed notion v)
+        → allowed notion v < countA n (g (total v)) → C → ⊥
+    exceeds-leaks g o chooses more c = omega (arith, more, all-chosen notion n m v g o unmasked, chooses .0 c)
 
-    pub leaks-b : (allowed notion v < countB n (total v)) ↔ (ChoiceByB notion n m v → ⊥)
-    leaks-b = (
-      exceeds-leaks-b,
-      λ none. exceeds-otherwise notion n m v swap (operand-b notion n m) smaller
-          (λ most. none (choice-exactly n (allowed notion v) n m v .1 (enough (λ t. t), most))),
-    )
+    pub exceeds-leaks-a : allowed notion v < countA n (total v) → ChoiceByA notion n m v → ⊥
+    exceeds-leaks-a = exceeds-leaks (λ t. t) (operand-a notion n m) choice-by-a
+
+    pub exceeds-leaks-b : allowed notion v < countB n (total v) → ChoiceByB notion n m v → ⊥
+    exceeds-leaks-b = exceeds-leaks swap (operand-b notion n m) choice-by-b
+
+    module _ (smaller : (l : List Bool) → length (pick l v) < length v → breaks notion n m (pick l v) ≡ false) where
+      leaks : (g : Terms → Terms) → Operand notion n m g → {C : Type 0} → C ↔ (count (chosen n m v g) (upTo n) ≤ allowed notion v)
+          → (allowed notion v < countA n (g (total v))) ↔ (C → ⊥)
+      leaks g o chooses = (
+        exceeds-leaks g o chooses,
+        λ none. exceeds-otherwise notion n m v g o smaller (λ most. none (chooses .1 most)),
+      )
+
+      pub leaks-a : (allowed notion v < countA n (total v)) ↔ (ChoiceByA notion n m v → ⊥)
+      leaks-a = leaks (λ t. t) (operand-a notion n m) choice-by-a
+
+      pub leaks-b : (allowed notion v < countB n (total v)) ↔ (ChoiceByB notion n m v → ⊥)
+      leaks-b = leaks swap (operand-b notion n m) choice-by-b

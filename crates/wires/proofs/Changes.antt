@@ -1,5 +1,6 @@
 -- What the counts of a set mean: its values' sum changes with just the shares that are counted, and with a mask exactly where one is left.
 --     sum-is            the sum of the values of wires is the value of their sum
+--     by-sum            what a change of the input does to the value of their sum, for a share of either operand
 --     mask-exactly      a mask is left exactly when the value changes with some mask
 --     set-depends       the counts of a set, and what the notion allows it
 --     number-once       there is one number of those that are as a property says
@@ -16,7 +17,7 @@ use Rattle.basics.proofs.Folds.{fold-below, some-where, some-at}
 use Rattle.wires.specs.declared.Notion.{Notion}
 use Rattle.wires.specs.declared.Notion.the-variants.{Ni, Sni}
 use Rattle.wires.specs.Wires.{Wire, Input, value, total, flipA, flipB, dependsA, dependsB, countA, countB, masked, allowed}
-use Rattle.wires.specs.Dependence.{sumShown, ChangesWithA, ChangesWithB, ChangesWithMask, NumberOf, SetDepends}
+use Rattle.wires.specs.Dependence.{sumShown, Changes, ChangesWithA, ChangesWithB, ChangesWithMask, NumberOf, SetDepends}
 use Rattle.wires.proofs.Value.{value-total, value-shift}
 use Rattle.wires.proofs.Dependence.{parity-one, changed, depends-exactly, depends-exactly-b}
 use Rattle.wires.proofs.Breaks.{allowed-ni}
@@ -28,6 +29,14 @@ module _ (n m : ℕ) (v : List Wire) where
   -- the sum changes where the value of the total does
   apart : (x y : Input) (r s : ℕ → Bool) → (value n m x r (total v) ≡ value n m y s (total v) → ⊥) ↔ (sumShown n m x r v ≡ sumShown n m y s v → ⊥)
   apart x y r s = (λ h e. h (sym (sum-is x r) ∙ e ∙ sum-is y s), λ h e. h (sum-is x r ∙ e ∙ sym (sum-is y s)))
+
+  -- what the value of the total says of a change of the input, the sum of the values says
+  by-sum : {D : Type 0} (input : Input → Input) → D ↔ ((x : Input) × (r : ℕ → Bool) × (value n m x r (total v) ≡ value n m (input x) r (total v) → ⊥))
+      → D ↔ Changes n m v input (λ r. r)
+  by-sum input exactly = (
+    λ d. let w = exactly .0 d in (w .0, w .1, apart (w .0) (input (w .0)) (w .1) (w .1) .0 (w .2)),
+    λ c. exactly .1 (c .0, c .1, apart (c .0) (input (c .0)) (c .1) (c .1) .1 (c .2)),
+  )
 
   abbrev with-mask : (ℕ → Bool) → ℕ → ℕ → Bool
   with-mask r k i = xor (r i) (eqb i k)
@@ -66,26 +75,12 @@ module _ (n m : ℕ) (v : List Wire) where
   pub set-depends : (notion : Notion) → SetDepends notion n m v (countA n (total v)) (countB n (total v)) (allowed notion v) (masked m (total v))
   unfolding countA
   set-depends notion = record {
-    shares-of-a = record { test = dependsA n (total v); exactly = of-a; counted = refl };
-    shares-of-b = record { test = dependsB n (total v); exactly = of-b; counted = refl };
+    shares-of-a = record { test = dependsA n (total v); exactly = λ i below. by-sum (flipA i) (depends-exactly n m i (total v) below); counted = refl };
+    shares-of-b = record { test = dependsB n (total v); exactly = λ j below. by-sum (flipB j) (depends-exactly-b n m j (total v) below); counted = refl };
     mask-left = mask-exactly;
     allowed-ni = λ e. ap (λ (k : Notion). allowed k v) e ∙ allowed-ni v;
     allowed-sni = λ e. ap (λ (k : Notion). allowed k v) e;
   }
-    where
-      of-a : (i : ℕ) → i < n → (dependsA n (total v) i ≡ true) ↔ ChangesWithA n m v i
-      of-a i below =
-          let exactly = depends-exactly n m i (total v) below in (
-            λ d. let w = exactly .0 d in (w .0, w .1, apart (w .0) (flipA i (w .0)) (w .1) (w .1) .0 (w .2)),
-            λ c. exactly .1 (c .0, c .1, apart (c .0) (flipA i (c .0)) (c .1) (c .1) .1 (c .2)),
-          )
-
-      of-b : (j : ℕ) → j < n → (dependsB n (total v) j ≡ true) ↔ ChangesWithB n m v j
-      of-b j below =
-          let exactly = depends-exactly-b n m j (total v) below in (
-            λ d. let w = exactly .0 d in (w .0, w .1, apart (w .0) (flipB j (w .0)) (w .1) (w .1) .0 (w .2)),
-            λ c. exactly .1 (c .0, c .1, apart (c .0) (flipB j (c .0)) (c .1) (c .1) .1 (c .2)),
-          )
 
 pub number-once : (n : ℕ) (P : ℕ → Type 0) (a b : ℕ) → NumberOf n P a → NumberOf n P b → a ≡ b
 number-once n P a b x y =

@@ -1,6 +1,7 @@
 -- What it means that a set of wires depends on a share or has a mask left (scope, "Breaking sets"), in values alone: no record and no bit of a word in it.
 --     sumShown         the sum, without carry, of the values of wires, under an input and a mask setting
---     ChangesWithA     some input and mask setting give another sum once share i of a alone is changed
+--     Changes          some input and mask setting give another sum once they are changed in a given way
+--     ChangesWithA     once share i of a alone is changed
 --     ChangesWithB     the same for share j of b
 --     ChangesWithMask  the same for mask k
 --     NumberOf         how many numbers below n are as a property says
@@ -20,14 +21,17 @@ use Rattle.wires.specs.Wires.{Wire, Input, value, flipA, flipB}
 abbrev pub sumShown : ℕ → ℕ → Input → (ℕ → Bool) → List Wire → Bool
 sumShown n m x r v = parity (λ w. value n m x r (w .terms)) v
 
+abbrev pub Changes : ℕ → ℕ → List Wire → (Input → Input) → ((ℕ → Bool) → ℕ → Bool) → Type 0
+Changes n m v input setting = (x : Input) × (r : ℕ → Bool) × (sumShown n m x r v ≡ sumShown n m (input x) (setting r) v → ⊥)
+
 abbrev pub ChangesWithA : ℕ → ℕ → List Wire → ℕ → Type 0
-ChangesWithA n m v i = (x : Input) × (r : ℕ → Bool) × (sumShown n m x r v ≡ sumShown n m (flipA i x) r v → ⊥)
+ChangesWithA n m v i = Changes n m v (flipA i) (λ r. r)
 
 abbrev pub ChangesWithB : ℕ → ℕ → List Wire → ℕ → Type 0
-ChangesWithB n m v j = (x : Input) × (r : ℕ → Bool) × (sumShown n m x r v ≡ sumShown n m (flipB j x) r v → ⊥)
+ChangesWithB n m v j = Changes n m v (flipB j) (λ r. r)
 
 abbrev pub ChangesWithMask : ℕ → ℕ → List Wire → ℕ → Type 0
-ChangesWithMask n m v k = (x : Input) × (r : ℕ → Bool) × (sumShown n m x r v ≡ sumShown n m x (λ i. xor (r i) (eqb i k)) v → ⊥)
+ChangesWithMask n m v k = Changes n m v (λ x. x) (λ r i. xor (r i) (eqb i k))
 
 pub record NumberOf (n : ℕ) (P : ℕ → Type 0) (number : ℕ) : Type 0 where
   pub test : ℕ → Bool
