@@ -52,4 +52,6 @@ pub mod Found
 pub mod Unique
 pub mod Exactly
 pub mod Turning
+pub mod Printing
+pub mod Outers
 pub mod Samples

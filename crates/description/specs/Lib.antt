@@ -5,9 +5,11 @@
 --     Listing    wires as they are listed, and their records
 --     Run        the reading of a text, a run over its bytes from left to right
 --     Grammar    the grammar: which texts spell which description, and which wires a description has
+--     Printing   a description written out, with one space between items
 pub mod Bytes
 pub mod Symbols
 pub mod Header
 pub mod Listing
 pub mod Run
 pub mod Grammar
+pub mod Printing
