@@ -54,4 +54,5 @@ pub mod Exactly
 pub mod Turning
 pub mod Printing
 pub mod Outers
+pub mod Counting
 pub mod Samples
