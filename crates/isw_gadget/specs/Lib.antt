@@ -1,0 +1,9 @@
+-- The definitions of `isw_gadget`.
+--     Pairs      the pairs of shares, numbered
+--     Text       the text at an order, byte by byte
+--     Gadget     the gadget as a description
+--     Answers    what is told of the text of an order
+pub mod Pairs
+pub mod Text
+pub mod Gadget
+pub mod Answers
