@@ -7,6 +7,9 @@
 --     fold-below                           functions that are equal below n
 --     fold-pick                            one number alone adds something
 --     fold-narrow                          numbers from n on add nothing
+--     fold-lists                           lists put together
+--     fold-keeps                           what holds of every part holds of the whole
+--     up-to-length                         there are n numbers below n
 --     keep-append                          what is kept of a list in two parts
 --     count-all                            a test that always passes counts the elements
 --     every-place                          what holds of every element holds at a place
@@ -14,7 +17,7 @@
 use Prim.Native.Nat.{ℕ, zero, suc, _+_, _≤_, _<_, suc-le-suc, zero-le}
 use native.Mathlib.Nat.{not-suc-le-zero, le-of-suc-le-suc, zero-lt-suc, zero-add, suc-add}
 use native.Mathlib.Omega.{arith}
-use mathlib.Core.Path.{_≡_, refl, sym, _∙_, ap, ap₂}
+use mathlib.Core.Path.{_≡_, refl, sym, _∙_, ap, ap₂, subst}
 use mathlib.Core.Bool.{Bool, true, false, cond, _&&_, _||_, true≢false, false≢true, or-assoc}
 use mathlib.Core.List.{List, [], _∷_, _++_, map, map-append}
 use lib.ListN.{length, take, getD}
@@ -125,6 +128,27 @@ module _ {B : Type 0} (op : B → B → B) (e : B) where
       ap (λ (k : ℕ). fold op e f (upTo k)) (suc-add n m) ∙ fold-first (n + m) f ∙ ap (op (f 0)) (fold-split unit assoc n m (λ i. f (suc i)))
       ∙ sym (assoc (f 0) (fold op e (λ i. f (suc i)) (upTo n)) (fold op e (λ i. f (suc (n + i))) (upTo m)))
       ∙ ap₂ op (sym (fold-first n f)) (fold-cong op e (λ i. f (suc (n + i))) (λ i. f (suc n + i)) (upTo m) (λ i. ap f (sym (suc-add n i))))
+
+  pub fold-keeps : (P : B → Type 0) → P e → ((x y : B) → P x → P y → P (op x y)) → (n : ℕ) (f : ℕ → B) → ((i : ℕ) → i < n → P (f i))
+      → P (fold op e f (upTo n))
+  unfolding upTo
+  fold-keeps P base more zero f h = base
+  fold-keeps P base more (suc n) f h =
+      subst P (sym (fold-first n f))
+      (more (f 0) (fold op e (λ i. f (suc i)) (upTo n)) (h 0 (zero-lt-suc n)) (fold-keeps P base more n (λ i. f (suc i)) (λ i k. h (suc i) (suc-le-suc k))))
+
+  pub fold-lists : {A C : Type 0} → ((x : B) → op e x ≡ x) → ((x y z : B) → op (op x y) z ≡ op x (op y z)) → (f : A → B) (g : C → List A) (l : List C)
+      → fold op e f (fold _++_ [] g l) ≡ fold op e (λ x. fold op e f (g x)) l
+  fold-lists unit assoc f g l = fold-hom _++_ [] op e (fold op e f) refl (fold-append op e unit assoc f) g l
+
+pub up-to-length : (n : ℕ) → length (upTo n) ≡ n
+unfolding upTo
+up-to-length zero = refl
+up-to-length (suc n) = ap suc (sizes (upTo n) ∙ up-to-length n)
+  where
+    sizes : (l : List ℕ) → length (map suc l) ≡ length l
+    sizes [] = refl
+    sizes (k ∷ l) = ap suc (sizes l)
 
 pub up-to-last : (n : ℕ) → upTo (suc n) ≡ upTo n ++ (n ∷ [])
 unfolding upTo

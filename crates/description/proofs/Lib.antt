@@ -25,6 +25,10 @@
 --     Unique        a text spells one description
 --     Exactly       a text is read exactly when it spells a description within the limits
 --     Turning       a text that is turned down before its output lines are read
+--     Printing      what is printed is spelled
+--     Joining       items put together
+--     Outers        the outer wires of output lines, and their values
+--     Counting      how many wires a description has
 --     Samples       examples, proved by running the definitions
 pub mod Running
 pub mod Places
@@ -53,6 +57,7 @@ pub mod Unique
 pub mod Exactly
 pub mod Turning
 pub mod Printing
+pub mod Joining
 pub mod Outers
 pub mod Counting
 pub mod Samples

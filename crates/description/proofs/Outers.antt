@@ -2,7 +2,8 @@
 --     inner-events        events make no outer wire
 --     further-last        items after others end in the addition of all symbols
 --     worked-last         so do items that use more than one symbol
---     line-outer          the outer wire of a line
+--     symbolValue         what a symbol is worth
+--     line-value          the value of a line's outer wire is that of all its symbols, added up
 --     lines-value         the outer wires' values add up to the values of the lines' symbols
 use Prim.Native.Nat.{ℕ, suc, _+_, _≤_}
 use native.Mathlib.Omega.{arith}
@@ -113,6 +114,10 @@ worked-last (group o inside c (group o′ inside′ c′ is)) p q ps e =
 
 -- ---- a line's outer wire
 
+-- what a symbol is worth, for so many shares and masks
+abbrev pub symbolValue : ℕ → ℕ → Input → (ℕ → Bool) → Symbol → Bool
+symbolValue shares masks x r s = value shares masks x r (symbolTerms s)
+
 last-outer : (n : ℕ) (ws : List Listed) (w : Listed) → lastOuter n (ws ++ (w ∷ [])) ≡ ws ++ (madeOuter n w ∷ [])
 last-outer n [] w = refl
 last-outer n (v ∷ []) w = refl
@@ -123,35 +128,34 @@ module _ (shares masks : ℕ) (names : List ℕ) (few : shares ≤ maxShares) (l
   abbrev worth : Terms → Bool
   worth = value shares masks x r
 
-  -- what a symbol is worth
-  abbrev pub symbolValue : Symbol → Bool
-  symbolValue s = value shares masks x r (symbolTerms s)
+  abbrev symbolWorth : Symbol → Bool
+  symbolWorth = symbolValue shares masks x r
 
-  sum-value : (l : List Symbol) → every (known shares names) l ≡ true → worth (termsOf (sumOf l)) ≡ parity symbolValue l
+  sum-value : (l : List Symbol) → every (known shares names) l ≡ true → worth (termsOf (sumOf l)) ≡ parity symbolWorth l
   sum-value l k =
       ap worth (sum-means shares names few low l k)
       ∙ fold-hom plus Wires.none xor false worth (value-none shares masks x r) (value-plus shares masks x r) symbolTerms l
 
   -- after events, which make no outer wire, one wire that is
-  one-outer : (ws : List Listed) (w : Listed) (l : List Symbol) → outersOf ws ≡ [] → w .outer ≡ true → worth (termsOf (w .sum)) ≡ parity symbolValue l
-      → parity (λ w. worth (w .terms)) (outersOf (ws ++ (w ∷ []))) ≡ parity symbolValue l
+  one-outer : (ws : List Listed) (w : Listed) (l : List Symbol) → outersOf ws ≡ [] → w .outer ≡ true → worth (termsOf (w .sum)) ≡ parity symbolWorth l
+      → parity (λ w. worth (w .terms)) (outersOf (ws ++ (w ∷ []))) ≡ parity symbolWorth l
   one-outer ws w l inner outer e =
       ap (parity (λ w. worth (w .terms))) (outers-append ws (w ∷ []) ∙ ap₂ {C = List Wire} (λ a b. a ++ cond b (wireOf w ∷ []) []) inner outer)
       ∙ xor-false (worth (termsOf (w .sum))) ∙ e
 
   pub line-value : (is : Items) (seen : List Symbol) (n : ℕ) → whole is ≡ true → empty is ≡ false → every (known shares names) (symbols is) ≡ true
-      → parity (λ w. worth (w .terms)) (outersOf (lineWires seen n is)) ≡ parity symbolValue (symbols is)
+      → parity (λ w. worth (w .terms)) (outersOf (lineWires seen n is)) ≡ parity symbolWorth (symbols is)
   line-value is seen n w f k = go (uses is) refl
     where
       go : (us : List PlacedSymbol) → uses is ≡ us
-          → parity (λ w. worth (w .terms)) (outersOf (outered n us (eventWires (worked is) seen))) ≡ parity symbolValue (symbols is)
+          → parity (λ w. worth (w .terms)) (outersOf (outered n us (eventWires (worked is) seen))) ≡ parity symbolWorth (symbols is)
       go [] e = let some = some-used is w f in let size = ap length e in absurd (omega (arith, some, size))
       go (p ∷ []) e =
           let alone : symbols is ≡ p .symbol ∷ [] = ap (map (λ (u : PlacedSymbol). u .symbol)) e in
           let here = and-left (known shares names (p .symbol)) true (sym (ap (every (known shares names)) alone) ∙ k) in
           one-outer (eventWires (worked is) seen) (outerWire n p) (symbols is) (inner-events (worked is) seen) refl
-          (ap worth (symbol-means (p .symbol) (known-small shares names (p .symbol) few low here)) ∙ sym (xor-false (symbolValue (p .symbol)))
-          ∙ ap (parity symbolValue) (sym alone))
+          (ap worth (symbol-means (p .symbol) (known-small shares names (p .symbol) few low here)) ∙ sym (xor-false (symbolWorth (p .symbol)))
+          ∙ ap (parity symbolWorth) (sym alone))
       go (p ∷ q ∷ ps) e =
           let l = worked-last is p q ps e in
           let sums = additionOf (symbols is) (l .offset) (l .size) in
@@ -162,7 +166,7 @@ module _ (shares masks : ℕ) (names : List ℕ) (few : shares ≤ maxShares) (l
 
   pub lines-value : (lines : List Items) (seen : List Symbol) (n : ℕ) → every (λ is. not (empty is) && whole is) lines ≡ true
       → every (λ is. every (known shares names) (symbols is)) lines ≡ true
-      → parity (λ w. worth (w .terms)) (outersOf (linesWires lines seen n)) ≡ parity (λ is. parity symbolValue (symbols is)) lines
+      → parity (λ w. worth (w .terms)) (outersOf (linesWires lines seen n)) ≡ parity (λ is. parity symbolWorth (symbols is)) lines
   lines-value [] seen n g k = refl
   lines-value (is ∷ lines) seen n g k =
       let first = and-left (not (empty is) && whole is) (every (λ is. not (empty is) && whole is) lines) g in

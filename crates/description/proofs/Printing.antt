@@ -1,5 +1,5 @@
 -- What is printed is spelled: the text of a description spells it, each item at its place.
---     laid-empty, laid-symbols, laid-depth, laid-whole, laid-limits     items at their places are the same items, within the same limits
+--     laid-empty, laid-symbols, laid-depth, laid-whole, laid-fold, laid-count, laid-limits     items at their places are the same items, within the same limits
 --     spellable              every symbol can be spelled, and no group is empty
 --     items-stand            the bytes of items spell them
 --     lines-spelled          so do those of output lines
@@ -171,12 +171,12 @@ module _ (text : List ℕ) where
 
 -- ---- descriptions
 
-module _ (f : Items → Bool) (same : (p : ℕ) (is : Items) → f (laid p is) ≡ f is) where
-  laid-every : (p : ℕ) (lines : List Items) → every f (laidLines p lines) ≡ every f lines
-  laid-every p [] = refl
-  laid-every p (is ∷ lines) = ap₂ _&&_ (same p is) (laid-every (p + length (following is)) lines)
+pub laid-fold : {B : Type 0} (op : B → B → B) (e : B) (f : Items → B) → ((p : ℕ) (is : Items) → f (laid p is) ≡ f is) → (p : ℕ) (lines : List Items)
+    → fold op e f (laidLines p lines) ≡ fold op e f lines
+laid-fold op e f same p [] = refl
+laid-fold op e f same p (is ∷ lines) = ap₂ op (same p is) (laid-fold op e f same (p + length (following is)) lines)
 
-laid-count : (p : ℕ) (lines : List Items) → length (laidLines p lines) ≡ length lines
+pub laid-count : (p : ℕ) (lines : List Items) → length (laidLines p lines) ≡ length lines
 laid-count p [] = refl
 laid-count p (is ∷ lines) = ap suc (laid-count (p + length (following is)) lines)
 
@@ -184,8 +184,8 @@ pub laid-limits : (text : List ℕ) (d : Description) → Limits text d → Limi
 laid-limits text d l = record {
   short = l .short;
   line-count = laid-count at (d .lines) ∙ l .line-count;
-  shallow = laid-every (λ is. leb (depth is) maxDepth) (λ p is. ap (λ (k : ℕ). leb k maxDepth) (laid-depth p is)) at (d .lines) ∙ l .shallow;
-  all-known = laid-every (λ is. every (known shares (d .names)) (symbols is)) (λ p is. ap (every (known shares (d .names))) (laid-symbols p is)) at
+  shallow = laid-fold _&&_ true (λ is. leb (depth is) maxDepth) (λ p is. ap (λ (k : ℕ). leb k maxDepth) (laid-depth p is)) at (d .lines) ∙ l .shallow;
+  all-known = laid-fold _&&_ true (λ is. every (known shares (d .names)) (symbols is)) (λ p is. ap (every (known shares (d .names))) (laid-symbols p is)) at
       (d .lines)
       ∙ l .all-known;
 }

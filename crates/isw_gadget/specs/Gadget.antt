@@ -1,5 +1,6 @@
 -- The multiplication of Ishai, Sahai and Wagner as a description: the items of its lines, not their bytes.
---     part d i j     what line i has for share j: nothing for its own
+--     above, below   what line i has for a share above i, the pair's mask, and for one below, the corrected products
+--     part d i j     what it has for share j: nothing for its own
 --     line d i       line i
 --     isw d          the description; the places of its items are those of its text
 use Prim.Native.Nat.{ℕ, _+_}
@@ -12,11 +13,14 @@ use Rattle.description.specs.Grammar.{Items, none, Description}
 use Rattle.description.specs.Printing.{an, bracketed, _then_}
 use Rattle.isw_gadget.specs.Pairs.{pairs, pairNumber}
 
+abbrev pub above : ℕ → ℕ → ℕ → Items
+above d i j = an (Mask (pairNumber d i j)) none
+
+abbrev pub below : ℕ → ℕ → ℕ → Items
+below d i j = bracketed (bracketed (an (Mask (pairNumber d j i)) (an (Product j i) none)) (an (Product i j) none)) none
+
 abbrev pub part : ℕ → ℕ → ℕ → Items
-part d i j =
-    cond (eqb j i) none
-    (cond (ltb i j) (an (Mask (pairNumber d i j)) none)
-    (bracketed (bracketed (an (Mask (pairNumber d j i)) (an (Product j i) none)) (an (Product i j) none)) none))
+part d i j = cond (eqb j i) none (cond (ltb i j) (above d i j) (below d i j))
 
 abbrev pub line : ℕ → ℕ → Items
 line d i = an (Product i i) (fold _then_ none (part d i) (upTo (d + 1)))

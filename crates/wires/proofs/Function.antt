@@ -1,4 +1,5 @@
 -- The function check: one argument for the three functions.
+--     product-of-sums     the product of two sums of bits
 --     function-value      the terms of a function have the function as their value
 --     computes-exactly    the test passes exactly when for every input and mask setting the outer wires' values add up to the function
 use Prim.Native.Nat.{ℕ}
@@ -21,6 +22,15 @@ use Rattle.wires.proofs.Dependence.{zero-blank, blank-zero}
 common : {A : Type 0} (c : Bool) (f : A → Bool) (l : List A) → parity (λ x. f x && c) l ≡ (parity f l && c)
 common c f l = sym (fold-hom xor false xor false (λ (b : Bool). b && c) refl (λ a b. and-xor a b c) f l)
 
+pub product-of-sums : (n : ℕ) (f g : ℕ → Bool) → parity (λ i. parity (λ j. f i && g j) (upTo n)) (upTo n) ≡ (operand n f && operand n g)
+product-of-sums n f g =
+    fold-cong xor false (λ i. parity (λ j. f i && g j) (upTo n)) (λ i. f i && operand n g) (upTo n) row ∙ common (operand n g) f (upTo n)
+  where
+    row : (i : ℕ) → parity (λ j. f i && g j) (upTo n) ≡ (f i && operand n g)
+    row i =
+        fold-cong xor false (λ j. f i && g j) (λ j. g j && f i) (upTo n) (λ j. and-comm (f i) (g j)) ∙ common (f i) g (upTo n)
+        ∙ and-comm (operand n g) (f i)
+
 -- terms that name all products or none, all shares of a or none, all shares of b or none
 all-or-none : (n m : ℕ) (x : Input) (r : ℕ → Bool) (p a b : Bool) → let A = operand n (x .ofA) in let B = operand n (x .ofB) in
     value n m x r (record { product = λ i j. p; shareA = λ i. a; shareB = λ j. b; mask = λ k. false }) ≡ xor (p && (A && B)) (xor (a && A) (b && B))
@@ -30,16 +40,9 @@ all-or-none n m x r p a b =
     (ap₂ xor (singles a (x .ofA))
     (ap₂ xor (singles b (x .ofB)) (nothing (upTo m)) ∙ xor-false (b && operand n (x .ofB))))
   where
-    row : (i : ℕ) → parity (λ j. x .ofA i && x .ofB j) (upTo n) ≡ (x .ofA i && operand n (x .ofB))
-    row i =
-        fold-cong xor false (λ j. x .ofA i && x .ofB j) (λ j. x .ofB j && x .ofA i) (upTo n) (λ j. and-comm (x .ofA i) (x .ofB j))
-        ∙ common (x .ofA i) (x .ofB) (upTo n) ∙ and-comm (operand n (x .ofB)) (x .ofA i)
-
     products : (p : Bool)
         → parity (λ i. parity (λ j. p && (x .ofA i && x .ofB j)) (upTo n)) (upTo n) ≡ (p && (operand n (x .ofA) && operand n (x .ofB)))
-    products true =
-        fold-cong xor false (λ i. parity (λ j. x .ofA i && x .ofB j) (upTo n)) (λ i. x .ofA i && operand n (x .ofB)) (upTo n) row
-        ∙ common (operand n (x .ofB)) (x .ofA) (upTo n)
+    products true = product-of-sums n (x .ofA) (x .ofB)
     products false = no-products n
 
     singles : (a : Bool) (f : ℕ → Bool) → parity (λ i. a && f i) (upTo n) ≡ (a && operand n f)

@@ -1,0 +1,124 @@
+-- The lines of the gadget: every property of a line is one of its parts.
+--     partSymbols, part-symbols     the symbols of a part
+--     line-symbols                  those of a line
+--     good-lines, shallow-lines     each line has items, no group is empty, two deep at most
+--     known-lines                   its symbols are shares of the order and declared masks
+--     line-printed, isw-printed     its bytes are those of the text
+use Prim.Native.Nat.{ℕ, zero, suc, _+_, _≤_, _<_}
+use native.Mathlib.Nat.{le-refl}
+use native.Mathlib.Omega.{arith}
+use mathlib.Core.Path.{_≡_, refl, sym, _∙_, ap, ap₂}
+use mathlib.Core.Bool.{Bool, true, false, cond, not, _&&_, and-assoc}
+use mathlib.Core.List.{List, [], _∷_, _++_, map, append-assoc, append-nil}
+use borrow.Author.Tests.{ltb-true, ltb-false, eqb-false, lt-ltb, le-leb}
+use lib.Dec.{eqb, ltb, leb}
+use Rattle.basics.specs.Folds.{fold, every, upTo}
+use Rattle.basics.specs.Quoted.{bytes}
+use Rattle.basics.proofs.Tests.{and-left, and-right, and-both}
+use Rattle.basics.proofs.Folds.{fold-map, fold-cong, fold-hom, fold-append, fold-lists, fold-keeps, every-below}
+use Rattle.wires.specs.declared.Symbol.{Symbol}
+use Rattle.wires.specs.declared.Symbol.the-variants.{Product, Mask}
+use Rattle.description.specs.Symbols.{maskName, spelling}
+use Rattle.description.specs.Run.{maxDepth}
+use Rattle.description.specs.Grammar.{Items, none, Description, empty, symbols, depth, known, member, headerText}
+use Rattle.description.specs.Printing.{_then_, following, printed, printedLine, textOf}
+use Rattle.description.proofs.Events.{whole}
+use Rattle.description.proofs.Joining.{then-following, then-symbols, then-whole, then-shallow, names-member}
+use Rattle.isw_gadget.specs.Pairs.{pairs, pairNumber}
+use Rattle.isw_gadget.specs.Text.{maskOf, corrected, item, others, lineText, iswText}
+use Rattle.isw_gadget.specs.Gadget.{above, below, part, line, isw}
+use Rattle.isw_gadget.proofs.Pairs.{pair-below}
+
+-- what holds of each line holds of all
+every-line : (f : Items → Bool) (d : ℕ) → ((i : ℕ) → i < d + 1 → f (line d i) ≡ true) → every f (isw d .lines) ≡ true
+every-line f d h = fold-map _&&_ true (line d) f (upTo (d + 1)) ∙ every-below (d + 1) (λ i. f (line d i)) h
+
+
+
+-- for share j a line has nothing, one thing where j is above i, another where it is below
+pub by-share : {A : Type 0} (P : A → Type 0) (i j : ℕ) (own above below : A) → P own → (i < j → P above) → (j < i → P below)
+    → P (cond (eqb j i) own (cond (ltb i j) above below))
+by-share P i j own above below p q r = go (eqb j i) refl (ltb i j) refl
+  where
+    go : (a : Bool) → eqb j i ≡ a → (b : Bool) → ltb i j ≡ b → P (cond a own (cond b above below))
+    go true e b f = p
+    go false e true f = q (ltb-true i j f)
+    go false e false f =
+        let high = ltb-false i j f in
+        let apart = eqb-false j i e in
+        r (omega (arith, high, apart))
+
+module _ (d : ℕ) where
+  -- line i after its first product
+  abbrev after : ℕ → Items
+  after i = fold _then_ none (part d i) (upTo (d + 1))
+
+  pub line-symbols : (i : ℕ) → symbols (line d i) ≡ Product i i ∷ fold _++_ [] (λ j. symbols (part d i j)) (upTo (d + 1))
+  line-symbols i = ap {B = List Symbol} (λ l. Product i i ∷ l) (fold-hom _then_ none _++_ [] symbols refl then-symbols (part d i) (upTo (d + 1)))
+
+  -- ---- what a description has to be
+
+  part-whole : (i j : ℕ) → whole (part d i j) ≡ true
+  part-whole i j = by-share (λ is. whole is ≡ true) i j none _ _ refl (λ h. refl) (λ h. refl)
+
+  pub good-lines : every (λ is. not (empty is) && whole is) (isw d .lines) ≡ true
+  good-lines = every-line (λ is. not (empty is) && whole is) d (λ i b. fold-keeps _then_ none (λ is. whole is ≡ true) refl
+      (λ is js p q. then-whole is js ∙ and-both (whole is) (whole js) p q) (d + 1) (part d i) (λ j c. part-whole i j))
+
+  pub shallow-lines : every (λ is. leb (depth is) maxDepth) (isw d .lines) ≡ true
+  shallow-lines = every-line (λ is. leb (depth is) maxDepth) d (λ i b. le-leb (depth (after i)) maxDepth
+      (fold-keeps _then_ none (λ is. depth is ≤ maxDepth) (omega arith) (then-shallow maxDepth) (d + 1) (part d i)
+      (λ j c. by-share (λ is. depth is ≤ maxDepth) i j none _ _ (omega arith) (λ h. omega arith) (λ h. omega arith))))
+
+  abbrev allowed : Symbol → Bool
+  allowed = known (d + 1) (upTo (pairs d))
+
+  product-known : (i j : ℕ) → i < d + 1 → j < d + 1 → allowed (Product i j) ≡ true
+  product-known i j h k = and-both (ltb i (d + 1)) (ltb j (d + 1)) (lt-ltb i (d + 1) h) (lt-ltb j (d + 1) k)
+
+  mask-known : (i j : ℕ) → i < j → j < d + 1 → allowed (Mask (pairNumber d i j)) ≡ true
+  mask-known i j h k = names-member (pairs d) (pairNumber d i j) (pair-below d i j h (omega (arith, k)))
+
+  pub part-known : (i j : ℕ) → i < d + 1 → j < d + 1 → every allowed (symbols (part d i j)) ≡ true
+  part-known i j h k =
+      by-share (λ is. every allowed (symbols is) ≡ true) i j none _ _ refl
+      (λ l. and-both (allowed (Mask (pairNumber d i j))) true (mask-known i j l k) refl)
+      (λ l. and-both (allowed (Mask (pairNumber d j i))) (allowed (Product j i) && (allowed (Product i j) && true)) (mask-known j i l h)
+      (and-both (allowed (Product j i)) (allowed (Product i j) && true) (product-known j i k h)
+      (and-both (allowed (Product i j)) true (product-known i j h k) refl)))
+
+  pub line-known : (i : ℕ) → i < d + 1 → every allowed (symbols (line d i)) ≡ true
+  line-known i b =
+      ap (every allowed) (line-symbols i)
+      ∙ and-both (allowed (Product i i)) (every allowed (fold _++_ [] (λ j. symbols (part d i j)) (upTo (d + 1)))) (product-known i i b b)
+      (fold-lists _&&_ true (λ c. refl) and-assoc allowed (λ j. symbols (part d i j)) (upTo (d + 1))
+      ∙ every-below (d + 1) (λ j. every allowed (symbols (part d i j))) (λ j c. part-known i j b c))
+
+  pub known-lines : every (λ is. every allowed (symbols is)) (isw d .lines) ≡ true
+  known-lines = every-line (λ is. every allowed (symbols is)) d line-known
+
+  -- ---- its bytes
+
+  part-printed : (i j : ℕ) → following (part d i j) ≡ cond (eqb j i) [] (bytes " " ++ item d i j)
+  part-printed i j = go (eqb j i) (ltb i j)
+    where
+      go : (a b : Bool)
+          → following (cond a none (cond b (above d i j) (below d i j))) ≡ cond a [] (bytes " " ++ cond b (maskOf d i j) (corrected d i j))
+      go true b = refl
+      go false true = ap {B = List ℕ} (λ l. bytes " " ++ l) (append-nil (maskOf d i j))
+      go false false =
+          ap {B = List ℕ} (λ l. bytes " ((" ++ l)
+          (ap (λ (l : List ℕ). l ++ bytes ")") (append-assoc (maskOf d j i) (bytes " " ++ spelling (Product j i)) (bytes ") " ++ spelling (Product i j)))
+          ∙ append-assoc (maskOf d j i) _ (bytes ")"))
+
+  line-printed : (i : ℕ) → printedLine (line d i) ≡ lineText d i
+  line-printed i =
+      ap (λ (l : List ℕ). (spelling (Product i i) ++ l) ++ bytes "\n")
+      (fold-hom _then_ none _++_ [] following refl then-following (part d i) (upTo (d + 1))
+      ∙ fold-cong _++_ [] (λ j. following (part d i j)) (λ j. cond (eqb j i) [] (bytes " " ++ item d i j)) (upTo (d + 1)) (part-printed i))
+
+  pub isw-printed : textOf (isw d) ≡ iswText d
+  unfolding iswText
+  isw-printed =
+      ap (λ (l : List ℕ). headerText d (upTo (pairs d)) ++ (bytes "\n" ++ l))
+      (fold-map _++_ [] (line d) printedLine (upTo (d + 1)) ∙ fold-cong _++_ [] (λ i. printedLine (line d i)) (lineText d) (upTo (d + 1)) line-printed)
