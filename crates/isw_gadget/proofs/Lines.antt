@@ -1,5 +1,5 @@
 -- The lines of the gadget: every property of a line is one of its parts.
---     partSymbols, part-symbols     the symbols of a part
+--     by-share, above-is, below-is  a part is nothing, or one thing, or another
 --     line-symbols                  those of a line
 --     good-lines, shallow-lines     each line has items, no group is empty, two deep at most
 --     known-lines                   its symbols are shares of the order and declared masks
@@ -10,7 +10,7 @@ use native.Mathlib.Omega.{arith}
 use mathlib.Core.Path.{_≡_, refl, sym, _∙_, ap, ap₂}
 use mathlib.Core.Bool.{Bool, true, false, cond, not, _&&_, and-assoc}
 use mathlib.Core.List.{List, [], _∷_, _++_, map, append-assoc, append-nil}
-use borrow.Author.Tests.{ltb-true, ltb-false, eqb-false, lt-ltb, le-leb}
+use borrow.Author.Tests.{ltb-true, ltb-false, eqb-false, lt-ltb, le-ltb, le-leb, ne-eqb}
 use lib.Dec.{eqb, ltb, leb}
 use Rattle.basics.specs.Folds.{fold, every, upTo}
 use Rattle.basics.specs.Quoted.{bytes}
@@ -47,6 +47,15 @@ by-share P i j own above below p q r = go (eqb j i) refl (ltb i j) refl
         let high = ltb-false i j f in
         let apart = eqb-false j i e in
         r (omega (arith, high, apart))
+
+-- the part of a higher share, and that of a lower one
+pub above-is : (d i j : ℕ) → i < j → part d i j ≡ above d i j
+above-is d i j h =
+    ap₂ (λ (a b : Bool). cond a none (cond b (above d i j) (below d i j))) (ne-eqb j i (λ e. omega (arith, h, e))) (lt-ltb i j h)
+
+pub below-is : (d i j : ℕ) → j < i → part d i j ≡ below d i j
+below-is d i j h =
+    ap₂ (λ (a b : Bool). cond a none (cond b (above d i j) (below d i j))) (ne-eqb j i (λ e. omega (arith, h, e))) (le-ltb i j (omega (arith, h)))
 
 module _ (d : ℕ) where
   -- line i after its first product

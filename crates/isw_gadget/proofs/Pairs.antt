@@ -4,6 +4,7 @@
 --     pair-in-row, pair-in-rows     numbers rise with the second share of a pair, and with the first
 --     PairOf, pair-onto   every number below that is a pair's
 --     pair-once           and of one pair only
+--     pairs-numbered      so they are numbered in their order, without a gap or a repeat
 use Prim.Native.Nat.{ℕ, zero, suc, _+_, _*_, _-_, _≤_, _<_, suc-le-suc}
 use native.Mathlib.Nat.{le-of-suc-le-suc, not-suc-le-zero, zero-lt-suc}
 use native.Mathlib.Omega.{arith}
@@ -11,7 +12,8 @@ use mathlib.Core.Path.{_≡_, refl, sym, _∙_, ap, ap₂, subst}
 use mathlib.Core.Bool.{Bool, true, false}
 use borrow.Author.Tests.{ltb-true, ltb-false}
 use lib.Dec.{ltb}
-use Rattle.isw_gadget.specs.Pairs.{pairs, pairNumber}
+use mathlib.Core.Logic.{_⊎_, inl, inr}
+use Rattle.isw_gadget.specs.Pairs.{pairs, pairNumber, Pair, Before, Numbers}
 
 pub pair-below : (d i j : ℕ) → i < j → j ≤ d → pairNumber d i j < pairs d
 pair-below d i zero h l = absurd (not-suc-le-zero h)
@@ -92,3 +94,18 @@ pairs-half (suc d) =
     let ih = pairs-half d in
     let more : suc d * (suc d + 1) ≡ d * (d + 1) + (d + 1) + (d + 1) = omega arith in
     omega (arith, ih, more)
+
+pub pairs-numbered : (d : ℕ) → Numbers d (pairNumber d)
+pairs-numbered d = record {
+  below = λ i j p. pair-below d i j (p .0) (p .1);
+  rising = before;
+  onto = λ n h. let p = pair-onto d n h in (p .first, p .second, (p .ordered, p .within), p .numbered);
+  once = λ i j k m p q. pair-once d i j k m (p .0) (p .1) (q .0) (q .1);
+}
+  where
+    before : (i j k m : ℕ) → Pair d i j → Pair d k m → Before i j k m → pairNumber d i j < pairNumber d k m
+    before i j k m p q (inl h) = pair-in-rows d i j k m h (p .0) (p .1) (q .0) (q .1)
+    before i j k m p q (inr h) =
+        let row = pair-in-row d i j m (p .0) (h .1) (q .1) in
+        let moved = ap (λ (x : ℕ). pairNumber d x m) (h .0) in
+        omega (arith, row, moved)

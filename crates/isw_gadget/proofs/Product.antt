@@ -24,7 +24,7 @@ use Rattle.description.proofs.Outers.{symbolValue}
 use Rattle.isw_gadget.specs.Pairs.{pairs, pairNumber}
 use Rattle.isw_gadget.specs.Gadget.{above, below, part, line, isw}
 use Rattle.isw_gadget.proofs.Pairs.{pair-below}
-use Rattle.isw_gadget.proofs.Square.{square-diagonal}
+use Rattle.isw_gadget.proofs.Sums.{square-diagonal}
 use Rattle.isw_gadget.proofs.Lines.{line-symbols}
 
 -- what the two lines of a pair have, each with one of the products

@@ -44,6 +44,7 @@ use Rattle.isw_gadget.specs.Text.{iswText}
 use Rattle.isw_gadget.specs.Gadget.{line, isw}
 use Rattle.isw_gadget.specs.Answers.{maxIswOrder}
 use Rattle.isw_gadget.specs.Reads.{iswWires, ReadAsProduct}
+use Rattle.isw_gadget.proofs.Sums.{mapped-length}
 use Rattle.isw_gadget.proofs.Lines.{good-lines, shallow-lines, known-lines, isw-printed}
 use Rattle.isw_gadget.proofs.Product.{isw-product}
 use Rattle.isw_gadget.proofs.Symbols.{uses-count, several, distinct-count}
@@ -74,10 +75,6 @@ written-fits d l h =
       few-masks = leb-true (pairs d) maxMasks (and-left (leb (pairs d) maxMasks) (leb (iswWires d) maxWires) masks);
       few-wires = leb-true (iswWires d) maxWires (and-right (leb (pairs d) maxMasks) (leb (iswWires d) maxWires) masks);
     }
-
-mapped-length : {A C : Type 0} (f : A → C) (l : List A) → length (map f l) ≡ length l
-mapped-length f [] = refl
-mapped-length f (x ∷ l) = ap suc (mapped-length f l)
 
 module _ (d : ℕ) (f : Fits d) where
   lines-many : length (isw d .lines) ≡ d + 1

@@ -27,36 +27,8 @@ use Rattle.description.proofs.Counting.{amid, distinct, distinct-all, allSymbol
 use Rattle.isw_gadget.specs.Pairs.{pairs, pairNumber}
 use Rattle.isw_gadget.specs.Gadget.{above, below, part, line, isw}
 use Rattle.isw_gadget.proofs.Pairs.{pair-below, pair-onto}
-use Rattle.isw_gadget.proofs.Lines.{by-share, line-symbols}
-
--- ---- sums of numbers
-
-abbrev sum : (ℕ → ℕ) → ℕ → ℕ
-sum f n = fold _+_ 0 f (upTo n)
-
-sum-constant : (c n : ℕ) → sum (λ i. c) n ≡ c * n
-unfolding upTo
-sum-constant c zero = omega arith
-sum-constant c (suc n) =
-    let first = fold-first _+_ 0 n (λ i. c) in
-    let rest = sum-constant c n in
-    omega (arith, first, rest)
-
--- a sum is no less than one of its parts
-sum-least : (f : ℕ → ℕ) (n k : ℕ) → k < n → f k ≤ sum f n
-unfolding upTo
-sum-least f zero k h = absurd (not-suc-le-zero h)
-sum-least f (suc n) zero h = let first = fold-first _+_ 0 n f in omega (arith, first)
-sum-least f (suc n) (suc k) h =
-    let first = fold-first _+_ 0 n f in
-    let rest = sum-least (λ i. f (suc i)) n k (omega (arith, h)) in
-    omega (arith, first, rest)
-
-sum-both : (f g : ℕ → ℕ) (n : ℕ) → sum (λ i. f i + g i) n ≡ sum f n + sum g n
-sum-both f g n = fold-both _+_ 0 (λ k. omega arith) (λ k m. omega arith) (λ k l m. omega arith) f g (upTo n)
-
-length-lists : {A C : Type 0} (g : C → List A) (l : List C) → length (fold _++_ [] g l) ≡ fold _+_ 0 (λ x. length (g x)) l
-length-lists g l = fold-hom _++_ [] _+_ 0 length refl length-append g l
+use Rattle.isw_gadget.proofs.Sums.{sum, sum-constant, sum-least, sum-both, zero-plus, one-passes, nothing-passes, length-lists, mapped-length}
+use Rattle.isw_gadget.proofs.Lines.{by-share, above-is, below-is, line-symbols}
 
 -- ---- how many symbols are used
 
@@ -147,10 +119,6 @@ masksTo m = map Mask (upTo m)
 abbrev everySymbol : ℕ → List Symbol
 everySymbol d = products (d + 1) ++ masksTo (pairs d)
 
-mapped-length : {A C : Type 0} (f : A → C) (l : List A) → length (map f l) ≡ length l
-mapped-length f [] = refl
-mapped-length f (x ∷ l) = ap suc (mapped-length f l)
-
 every-length : (d : ℕ) → length (everySymbol d) ≡ (d + 1) * (d + 1) + pairs d
 every-length d =
     let n = d + 1 in
@@ -162,18 +130,6 @@ every-length d =
     (mapped-length Mask (upTo (pairs d)) ∙ up-to-length (pairs d))
 
 -- ---- each is there once
-
-plus-zero : (k : ℕ) → k + 0 ≡ k
-plus-zero k = omega arith
-
-zero-plus : (k : ℕ) → 0 + k ≡ k
-zero-plus k = omega arith
-
--- where a test passes for one number only, it passes once
-one-passes : (n k : ℕ) (f : ℕ → Bool) → k < n → ((i : ℕ) → i < n → f i ≡ eqb i k) → sum (λ i. oneIf (f i)) n ≡ 1
-one-passes n k f h same =
-    fold-below _+_ 0 n (λ i. oneIf (f i)) (λ i. cond (eqb i k) 1 0) (λ i b. ap (λ (c : Bool). oneIf c) (same i b))
-    ∙ fold-pick _+_ 0 zero-plus plus-zero n k (λ i. 1) h
 
 figure-same : (i k : ℕ) → eqb (shareFigure i) (shareFigure k) ≡ eqb i k
 figure-same i k =
@@ -201,9 +157,6 @@ same-count d s =
     ∙ fold-cong _+_ 0 (λ i. count (λ u. sameSymbol u s) (map (Product i) (upTo (d + 1)))) (λ i. sum (λ j. oneIf (sameSymbol (Product i j) s)) (d + 1))
     (upTo (d + 1)) (λ i. fold-map _+_ 0 (Product i) (λ u. oneIf (sameSymbol u s)) (upTo (d + 1))))
     (fold-map _+_ 0 Mask (λ u. oneIf (sameSymbol u s)) (upTo (pairs d)))
-
-nothing-passes : (n : ℕ) → sum (λ i. 0) n ≡ 0
-nothing-passes n = fold-unit _+_ 0 zero-plus (λ i. 0) (upTo n) (λ i. refl)
 
 product-once : (d i j : ℕ) → i < d + 1 → j < d + 1 → count (λ u. sameSymbol u (Product i j)) (everySymbol d) ≡ 1
 product-once d i j h g =
@@ -288,15 +241,6 @@ module _ (d : ℕ) where
       (fold-lists _||_ false (λ b. refl) or-assoc (sameSymbol s) (λ j. symbols (part d i j)) (upTo (d + 1))
       ∙ some-at (d + 1) j (λ j. amid (symbols (part d i j)) s) k e))
 
-  -- the part of a higher share, and that of a lower one
-  above-is : (i j : ℕ) → i < j → part d i j ≡ above d i j
-  above-is i j h =
-      ap₂ (λ (a b : Bool). cond a none (cond b (above d i j) (below d i j))) (ne-eqb j i (λ e. omega (arith, h, e))) (lt-ltb i j h)
-
-  below-is : (i j : ℕ) → j < i → part d i j ≡ below d i j
-  below-is i j h =
-      ap₂ (λ (a b : Bool). cond a none (cond b (above d i j) (below d i j))) (ne-eqb j i (λ e. omega (arith, h, e))) (le-ltb i j (omega (arith, h)))
-
   itself : (s : Symbol) → sameSymbol s s ≡ true
   itself s = spelled-same s s refl
 
@@ -304,14 +248,14 @@ module _ (d : ℕ) where
   second-used : (i j : ℕ) → j < i → i < d + 1 → isUsed (Product j i) ≡ true
   second-used i j h k =
       part-used (Product j i) i j k (omega (arith, h, k))
-      (ap (λ is. amid (symbols is) (Product j i)) (below-is i j h)
+      (ap (λ is. amid (symbols is) (Product j i)) (below-is d i j h)
       ∙ or-right (sameSymbol (Product j i) (Mask (pairNumber d j i))) (sameSymbol (Product j i) (Product j i) || (sameSymbol (Product j i) (Product i j) || false))
       (or-left (sameSymbol (Product j i) (Product j i)) (sameSymbol (Product j i) (Product i j) || false) (itself (Product j i))))
 
   third-used : (i j : ℕ) → j < i → i < d + 1 → isUsed (Product i j) ≡ true
   third-used i j h k =
       part-used (Product i j) i j k (omega (arith, h, k))
-      (ap (λ is. amid (symbols is) (Product i j)) (below-is i j h)
+      (ap (λ is. amid (symbols is) (Product i j)) (below-is d i j h)
       ∙ or-right (sameSymbol (Product i j) (Mask (pairNumber d j i))) (sameSymbol (Product i j) (Product j i) || (sameSymbol (Product i j) (Product i j) || false))
       (or-right (sameSymbol (Product i j) (Product j i)) (sameSymbol (Product i j) (Product i j) || false)
       (or-left (sameSymbol (Product i j) (Product i j)) false (itself (Product i j)))))
@@ -338,7 +282,7 @@ module _ (d : ℕ) where
       let low = p .ordered in
       ap (λ (l : ℕ). isUsed (Mask l)) (sym (p .numbered))
       ∙ part-used (Mask (pairNumber d (p .first) (p .second))) (p .first) (p .second) (omega (arith, low, high)) (omega (arith, high))
-      (ap (λ is. amid (symbols is) (Mask (pairNumber d (p .first) (p .second)))) (above-is (p .first) (p .second) low)
+      (ap (λ is. amid (symbols is) (Mask (pairNumber d (p .first) (p .second)))) (above-is d (p .first) (p .second) low)
       ∙ or-left (sameSymbol (Mask (pairNumber d (p .first) (p .second))) (Mask (pairNumber d (p .first) (p .second)))) false
       (itself (Mask (pairNumber d (p .first) (p .second)))))
 

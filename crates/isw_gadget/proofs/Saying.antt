@@ -1,0 +1,106 @@
+-- What each line says, share by share.
+--     then-items, then-first, then-later     the items of items and then others
+--     part-items                             a part is one item, but for a line's own share
+--     items-before                           how many items stand before that of a share
+--     line-says                              each line says what request No. 2 has it say
+use Prim.Native.Nat.{ℕ, zero, suc, _+_, _≤_, _<_}
+use native.Mathlib.Nat.{not-suc-le-zero, zero-lt-suc}
+use native.Mathlib.Omega.{arith}
+use mathlib.Core.Path.{_≡_, refl, sym, _∙_, ap, ap₂}
+use mathlib.Core.Bool.{Bool, true, false, cond}
+use lib.Dec.{eqb, ltb}
+use borrow.Author.Tests.{ne-eqb}
+use Rattle.basics.specs.Folds.{fold, oneIf, upTo}
+use Rattle.basics.proofs.Folds.{fold-first, fold-hom, fold-cong, fold-below}
+use Rattle.description.specs.Grammar.{Items, none, symbol, group}
+use Rattle.description.specs.Printing.{_then_}
+use Rattle.isw_gadget.specs.Pairs.{pairNumber}
+use Rattle.isw_gadget.specs.Gadget.{above, below, part, line}
+use Rattle.isw_gadget.specs.Says.{items, itemAt, LineSays}
+use Rattle.isw_gadget.proofs.Sums.{sum, sum-constant, sum-both, nothing-passes, one-passes}
+use Rattle.isw_gadget.proofs.Lines.{above-is, below-is}
+
+-- ---- items and then others
+
+then-items : (is js : Items) → items (is then js) ≡ items is + items js
+then-items none js = omega arith
+then-items (symbol p is) js = let rest = then-items is js in omega (arith, rest)
+then-items (group o inside c is) js = let rest = then-items is js in omega (arith, rest)
+
+then-first : (is js : Items) → items is ≡ 1 → itemAt (is then js) 0 ≡ itemAt is 0
+then-first none js h = absurd (omega (arith, h))
+then-first (symbol p is) js h = refl
+then-first (group o inside c is) js h = refl
+
+then-later : (is js : Items) (k : ℕ) → itemAt (is then js) (items is + k) ≡ itemAt js k
+then-later none js k = let e : 0 + k ≡ k = omega arith in ap (itemAt js) e
+then-later (symbol p is) js k =
+    let e : suc (items is) + k ≡ suc (items is + k) = omega arith in ap (itemAt (symbol p (is then js))) e ∙ then-later is js k
+then-later (group o inside c is) js k =
+    let e : suc (items is) + k ≡ suc (items is + k) = omega arith in ap (itemAt (group o inside c (is then js))) e ∙ then-later is js k
+
+-- of items put together, those of part j after those of the parts before it
+item-of : (n : ℕ) (f : ℕ → Items) (j : ℕ) → j < n → items (f j) ≡ 1
+    → itemAt (fold _then_ none f (upTo n)) (sum (λ k. items (f k)) j) ≡ itemAt (f j) 0
+unfolding upTo
+item-of zero f j h one = absurd (not-suc-le-zero h)
+item-of (suc n) f zero h one =
+    ap (λ is. itemAt is 0) (fold-first _then_ none n f) ∙ then-first (f 0) (fold _then_ none (λ i. f (suc i)) (upTo n)) one
+item-of (suc n) f (suc j) h one =
+    ap₂ itemAt (fold-first _then_ none n f) (fold-first _+_ 0 j (λ k. items (f k)))
+    ∙ then-later (f 0) (fold _then_ none (λ i. f (suc i)) (upTo n)) (sum (λ k. items (f (suc k))) j)
+    ∙ item-of n (λ i. f (suc i)) j (omega (arith, h)) one
+
+-- ---- the parts of a line
+
+part-items : (d i j : ℕ) → items (part d i j) ≡ cond (eqb j i) 0 1
+part-items d i j = go (eqb j i) (ltb i j)
+  where
+    go : (a b : Bool) → items (cond a none (cond b (above d i j) (below d i j))) ≡ cond a 0 1
+    go true b = refl
+    go false true = refl
+    go false false = refl
+
+-- all but one of the numbers below j, where i is one of them
+items-before : (d i j : ℕ) (own : ℕ) → sum (λ k. oneIf (eqb k i)) j ≡ own → sum (λ k. items (part d i k)) j + own ≡ j
+items-before d i j own e =
+    let parts = fold-cong _+_ 0 (λ k. items (part d i k)) (λ k. cond (eqb k i) 0 1) (upTo j) (part-items d i) in
+    let both = sum-both (λ k. cond (eqb k i) 0 1) (λ k. oneIf (eqb k i)) j in
+    let ones = fold-cong _+_ 0 (λ k. cond (eqb k i) 0 1 + oneIf (eqb k i)) (λ k. 1) (upTo j) (λ k. one (eqb k i)) in
+    let all = sum-constant 1 j in
+    omega (arith, parts, both, ones, all, e)
+  where
+    one : (b : Bool) → cond b 0 1 + oneIf b ≡ 1
+    one true = refl
+    one false = refl
+
+-- i is not below j, and it is
+not-passed : (i j : ℕ) → j ≤ i → sum (λ k. oneIf (eqb k i)) j ≡ 0
+not-passed i j h =
+    fold-below _+_ 0 j (λ k. oneIf (eqb k i)) (λ k. 0) (λ k l. ap (λ (b : Bool). oneIf b) (ne-eqb k i (λ e. omega (arith, h, l, e)))) ∙ nothing-passes j
+
+passed : (i j : ℕ) → i < j → sum (λ k. oneIf (eqb k i)) j ≡ 1
+passed i j h = one-passes j i (λ k. eqb k i) h (λ k l. refl)
+
+pub line-says : (d i : ℕ) → i ≤ d → LineSays d (pairNumber d) i (line d i)
+line-says d i h = record { begins = refl; lower = below-i; higher = above-i; no-more = all }
+  where
+    below-i : (j : ℕ) → j < i → itemAt (line d i) (j + 1) ≡ below d i j
+    below-i j l =
+        let place = items-before d i j 0 (not-passed i j (omega (arith, l))) in
+        let next : j + 1 ≡ suc (sum (λ k. items (part d i k)) j) = omega (arith, place) in
+        ap (itemAt (line d i)) next
+        ∙ item-of (d + 1) (part d i) j (omega (arith, l, h)) (ap items (below-is d i j l)) ∙ ap (λ is. itemAt is 0) (below-is d i j l)
+
+    above-i : (j : ℕ) → i < j → j ≤ d → itemAt (line d i) j ≡ above d i j
+    above-i j l m =
+        let place = items-before d i j 1 (passed i j l) in
+        let next : j ≡ suc (sum (λ k. items (part d i k)) j) = omega (arith, place) in
+        ap (itemAt (line d i)) next
+        ∙ item-of (d + 1) (part d i) j (omega (arith, m)) (ap items (above-is d i j l)) ∙ ap (λ is. itemAt is 0) (above-is d i j l)
+
+    all : items (line d i) ≡ d + 1
+    all =
+        let place = items-before d i (d + 1) 1 (passed i (d + 1) (omega (arith, h))) in
+        let size = fold-hom _then_ none _+_ 0 items refl then-items (part d i) (upTo (d + 1)) in
+        omega (arith, place, size)

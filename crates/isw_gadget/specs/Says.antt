@@ -1,0 +1,28 @@
+-- What a line of the gadget says, share by share, as request No. 2 has it: without a list that is run through.
+--     items, itemAt     how many items stand side by side, and which is the k-th from 0 on
+--     LineSays          "line i begins with the product of shares i and i, then for each other j, rising, the pair's mask if j > i, else ((r sji) sij)"
+use Prim.Native.Nat.{ℕ, zero, suc, _+_, _≤_, _<_}
+use mathlib.Core.Path.{_≡_}
+use mathlib.Core.List.{List, [], _∷_}
+use Rattle.wires.specs.declared.Symbol.the-variants.{Product, Mask}
+use Rattle.description.specs.Grammar.{Items, none, symbol, group}
+use Rattle.description.specs.Printing.{an, bracketed}
+
+abbrev pub items : Items → ℕ
+items none = 0
+items (symbol p is) = suc (items is)
+items (group o inside c is) = suc (items is)
+
+abbrev pub itemAt : Items → ℕ → Items
+itemAt none k = none
+itemAt (symbol p is) zero = symbol p none
+itemAt (symbol p is) (suc k) = itemAt is k
+itemAt (group o inside c is) zero = group o inside c none
+itemAt (group o inside c is) (suc k) = itemAt is k
+
+-- the shares below i come first, so that of j stands at j + 1; line i has none for its own, so that of a share j above it at j
+pub record LineSays (d : ℕ) (number : ℕ → ℕ → ℕ) (i : ℕ) (is : Items) : Type 0 where
+  pub begins : itemAt is 0 ≡ an (Product i i) none
+  pub lower : (j : ℕ) → j < i → itemAt is (j + 1) ≡ bracketed (bracketed (an (Mask (number j i)) (an (Product j i) none)) (an (Product i j) none)) none
+  pub higher : (j : ℕ) → i < j → j ≤ d → itemAt is j ≡ an (Mask (number i j)) none
+  pub no-more : items is ≡ d + 1
