@@ -124,57 +124,57 @@ last-outer n (v ∷ []) w = refl
 last-outer n (v ∷ u ∷ ws) w = ap {B = List Listed} (λ l. v ∷ l) (last-outer n (u ∷ ws) w)
 
 module _ (shares masks : ℕ) (names : List ℕ) (few : shares ≤ maxShares) (low : every (λ k. leb k maxMask) names ≡ true) (x : Input) (r : ℕ → Bool)
-    where
-  abbrev worth : Terms → Bool
-  worth = value shares masks x r
+  where
+    abbrev worth : Terms → Bool
+    worth = value shares masks x r
 
-  abbrev symbolWorth : Symbol → Bool
-  symbolWorth = symbolValue shares masks x r
+    abbrev symbolWorth : Symbol → Bool
+    symbolWorth = symbolValue shares masks x r
 
-  sum-value : (l : List Symbol) → every (known shares names) l ≡ true → worth (termsOf (sumOf l)) ≡ parity symbolWorth l
-  sum-value l k =
-      ap worth (sum-means shares names few low l k)
-      ∙ fold-hom plus Wires.none xor false worth (value-none shares masks x r) (value-plus shares masks x r) symbolTerms l
+    sum-value : (l : List Symbol) → every (known shares names) l ≡ true → worth (termsOf (sumOf l)) ≡ parity symbolWorth l
+    sum-value l k =
+        ap worth (sum-means shares names few low l k)
+        ∙ fold-hom plus Wires.none xor false worth (value-none shares masks x r) (value-plus shares masks x r) symbolTerms l
 
-  -- after events, which make no outer wire, one wire that is
-  one-outer : (ws : List Listed) (w : Listed) (l : List Symbol) → outersOf ws ≡ [] → w .outer ≡ true → worth (termsOf (w .sum)) ≡ parity symbolWorth l
-      → parity (λ w. worth (w .terms)) (outersOf (ws ++ (w ∷ []))) ≡ parity symbolWorth l
-  one-outer ws w l inner outer e =
-      ap (parity (λ w. worth (w .terms))) (outers-append ws (w ∷ []) ∙ ap₂ {C = List Wire} (λ a b. a ++ cond b (wireOf w ∷ []) []) inner outer)
-      ∙ xor-false (worth (termsOf (w .sum))) ∙ e
+    -- after events, which make no outer wire, one wire that is
+    one-outer : (ws : List Listed) (w : Listed) (l : List Symbol) → outersOf ws ≡ [] → w .outer ≡ true → worth (termsOf (w .sum)) ≡ parity symbolWorth l
+        → parity (λ w. worth (w .terms)) (outersOf (ws ++ (w ∷ []))) ≡ parity symbolWorth l
+    one-outer ws w l inner outer e =
+        ap (parity (λ w. worth (w .terms))) (outers-append ws (w ∷ []) ∙ ap₂ {C = List Wire} (λ a b. a ++ cond b (wireOf w ∷ []) []) inner outer)
+        ∙ xor-false (worth (termsOf (w .sum))) ∙ e
 
-  pub line-value : (is : Items) (seen : List Symbol) (n : ℕ) → whole is ≡ true → empty is ≡ false → every (known shares names) (symbols is) ≡ true
-      → parity (λ w. worth (w .terms)) (outersOf (lineWires seen n is)) ≡ parity symbolWorth (symbols is)
-  line-value is seen n w f k = go (uses is) refl
-    where
-      go : (us : List PlacedSymbol) → uses is ≡ us
-          → parity (λ w. worth (w .terms)) (outersOf (outered n us (eventWires (worked is) seen))) ≡ parity symbolWorth (symbols is)
-      go [] e = let some = some-used is w f in let size = ap length e in absurd (omega (arith, some, size))
-      go (p ∷ []) e =
-          let alone : symbols is ≡ p .symbol ∷ [] = ap (map (λ (u : PlacedSymbol). u .symbol)) e in
-          let here = and-left (known shares names (p .symbol)) true (sym (ap (every (known shares names)) alone) ∙ k) in
-          one-outer (eventWires (worked is) seen) (outerWire n p) (symbols is) (inner-events (worked is) seen) refl
-          (ap worth (symbol-means (p .symbol) (known-small shares names (p .symbol) few low here)) ∙ sym (xor-false (symbolWorth (p .symbol)))
-          ∙ ap (parity symbolWorth) (sym alone))
-      go (p ∷ q ∷ ps) e =
-          let l = worked-last is p q ps e in
-          let sums = additionOf (symbols is) (l .offset) (l .size) in
-          ap (λ (ws : List Listed). parity (λ w. worth (w .terms)) (outersOf (lastOuter n ws)))
-          (ap (λ (es : List Event). eventWires es seen) (l .last-is) ∙ wires-append (l .before) (addition (symbols is) (l .offset) (l .size) ∷ []) seen)
-          ∙ ap (λ (ws : List Listed). parity (λ w. worth (w .terms)) (outersOf ws)) (last-outer n (eventWires (l .before) seen) sums)
-          ∙ one-outer (eventWires (l .before) seen) (madeOuter n sums) (symbols is) (inner-events (l .before) seen) refl (sum-value (symbols is) k)
+    pub line-value : (is : Items) (seen : List Symbol) (n : ℕ) → whole is ≡ true → empty is ≡ false → every (known shares names) (symbols is) ≡ true
+        → parity (λ w. worth (w .terms)) (outersOf (lineWires seen n is)) ≡ parity symbolWorth (symbols is)
+    line-value is seen n w f k = go (uses is) refl
+      where
+        go : (us : List PlacedSymbol) → uses is ≡ us
+            → parity (λ w. worth (w .terms)) (outersOf (outered n us (eventWires (worked is) seen))) ≡ parity symbolWorth (symbols is)
+        go [] e = let some = some-used is w f in let size = ap length e in absurd (omega (arith, some, size))
+        go (p ∷ []) e =
+            let alone : symbols is ≡ p .symbol ∷ [] = ap (map (λ (u : PlacedSymbol). u .symbol)) e in
+            let here = and-left (known shares names (p .symbol)) true (sym (ap (every (known shares names)) alone) ∙ k) in
+            one-outer (eventWires (worked is) seen) (outerWire n p) (symbols is) (inner-events (worked is) seen) refl
+            (ap worth (symbol-means (p .symbol) (known-small shares names (p .symbol) few low here)) ∙ sym (xor-false (symbolWorth (p .symbol)))
+            ∙ ap (parity symbolWorth) (sym alone))
+        go (p ∷ q ∷ ps) e =
+            let l = worked-last is p q ps e in
+            let sums = additionOf (symbols is) (l .offset) (l .size) in
+            ap (λ (ws : List Listed). parity (λ w. worth (w .terms)) (outersOf (lastOuter n ws)))
+            (ap (λ (es : List Event). eventWires es seen) (l .last-is) ∙ wires-append (l .before) (addition (symbols is) (l .offset) (l .size) ∷ []) seen)
+            ∙ ap (λ (ws : List Listed). parity (λ w. worth (w .terms)) (outersOf ws)) (last-outer n (eventWires (l .before) seen) sums)
+            ∙ one-outer (eventWires (l .before) seen) (madeOuter n sums) (symbols is) (inner-events (l .before) seen) refl (sum-value (symbols is) k)
 
-  pub lines-value : (lines : List Items) (seen : List Symbol) (n : ℕ) → every (λ is. not (empty is) && whole is) lines ≡ true
-      → every (λ is. every (known shares names) (symbols is)) lines ≡ true
-      → parity (λ w. worth (w .terms)) (outersOf (linesWires lines seen n)) ≡ parity (λ is. parity symbolWorth (symbols is)) lines
-  lines-value [] seen n g k = refl
-  lines-value (is ∷ lines) seen n g k =
-      let first = and-left (not (empty is) && whole is) (every (λ is. not (empty is) && whole is) lines) g in
-      let here = and-left (every (known shares names) (symbols is)) (every (λ is. every (known shares names) (symbols is)) lines) k in
-      ap (parity (λ w. worth (w .terms))) (outers-append (lineWires seen n is) (linesWires lines (symbols is ++ seen) (n + 1)))
-      ∙ fold-append xor false false-xor xor-assoc (λ w. worth (w .terms)) (outersOf (lineWires seen n is))
-      (outersOf (linesWires lines (symbols is ++ seen) (n + 1)))
-      ∙ ap₂ xor
-      (line-value is seen n (and-right (not (empty is)) (whole is) first) (not-true (empty is) (and-left (not (empty is)) (whole is) first)) here)
-      (lines-value lines (symbols is ++ seen) (n + 1) (and-right (not (empty is) && whole is) (every (λ is. not (empty is) && whole is) lines) g)
-      (and-right (every (known shares names) (symbols is)) (every (λ is. every (known shares names) (symbols is)) lines) k))
+    pub lines-value : (lines : List Items) (seen : List Symbol) (n : ℕ) → every (λ is. not (empty is) && whole is) lines ≡ true
+        → every (λ is. every (known shares names) (symbols is)) lines ≡ true
+        → parity (λ w. worth (w .terms)) (outersOf (linesWires lines seen n)) ≡ parity (λ is. parity symbolWorth (symbols is)) lines
+    lines-value [] seen n g k = refl
+    lines-value (is ∷ lines) seen n g k =
+        let first = and-left (not (empty is) && whole is) (every (λ is. not (empty is) && whole is) lines) g in
+        let here = and-left (every (known shares names) (symbols is)) (every (λ is. every (known shares names) (symbols is)) lines) k in
+        ap (parity (λ w. worth (w .terms))) (outers-append (lineWires seen n is) (linesWires lines (symbols is ++ seen) (n + 1)))
+        ∙ fold-append xor false false-xor xor-assoc (λ w. worth (w .terms)) (outersOf (lineWires seen n is))
+        (outersOf (linesWires lines (symbols is ++ seen) (n + 1)))
+        ∙ ap₂ xor
+        (line-value is seen n (and-right (not (empty is)) (whole is) first) (not-true (empty is) (and-left (not (empty is)) (whole is) first)) here)
+        (lines-value lines (symbols is ++ seen) (n + 1) (and-right (not (empty is) && whole is) (every (λ is. not (empty is) && whole is) lines) g)
+        (and-right (every (known shares names) (symbols is)) (every (λ is. every (known shares names) (symbols is)) lines) k))

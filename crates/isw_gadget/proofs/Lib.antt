@@ -6,6 +6,8 @@
 --     Product    the gadget computes the product
 --     Symbols    how many symbols it uses, and how many distinct ones
 --     Reading    the text of every order is read, and computes the product
+--     Answering  which call gets which number, and what an answer says
+--     Samples    examples, proved by running the definitions
 pub mod Pairs
 pub mod Sums
 pub mod Lines
@@ -13,3 +15,5 @@ pub mod Saying
 pub mod Product
 pub mod Symbols
 pub mod Reading
+pub mod Answering
+pub mod Samples

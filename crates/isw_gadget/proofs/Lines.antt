@@ -33,8 +33,6 @@ use Rattle.isw_gadget.proofs.Pairs.{pair-below}
 every-line : (f : Items → Bool) (d : ℕ) → ((i : ℕ) → i < d + 1 → f (line d i) ≡ true) → every f (isw d .lines) ≡ true
 every-line f d h = fold-map _&&_ true (line d) f (upTo (d + 1)) ∙ every-below (d + 1) (λ i. f (line d i)) h
 
-
-
 -- for share j a line has nothing, one thing where j is above i, another where it is below
 pub by-share : {A : Type 0} (P : A → Type 0) (i j : ℕ) (own above below : A) → P own → (i < j → P above) → (j < i → P below)
     → P (cond (eqb j i) own (cond (ltb i j) above below))

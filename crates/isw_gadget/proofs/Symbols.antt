@@ -16,7 +16,19 @@ use Rattle.limits.specs.Limits.{maxMasks}
 use Rattle.basics.specs.Folds.{fold, some, every, count, oneIf, upTo}
 use Rattle.basics.proofs.Tests.{and-left, and-right, and-both, or-left, or-right, bool-ext}
 use Rattle.basics.proofs.Folds.{
-  fold-map, fold-cong, fold-hom, fold-append, fold-lists, fold-first, fold-below, fold-unit, fold-both, fold-pick, up-to-length, every-below, some-at,
+  fold-map,
+  fold-cong,
+  fold-hom,
+  fold-append,
+  fold-lists,
+  fold-first,
+  fold-below,
+  fold-unit,
+  fold-both,
+  fold-pick,
+  up-to-length,
+  every-below,
+  some-at,
 }
 use Rattle.wires.specs.declared.Symbol.{Symbol}
 use Rattle.wires.specs.declared.Symbol.the-variants.{Product, Mask}

@@ -1,0 +1,101 @@
+-- What is told of the text of an order: which call gets which number, and what an answer says.
+--     isw-settled                      a refusal is told exactly when its condition is the first that holds, a length exactly when none does
+--     isw-numbers                      the numbers of the refusals
+--     told-text, told-refusal          what is told where the entry answers, and where it refuses
+--     answer-says                      whatever tells what the entry is to tell says what the request asks for
+use Prim.Native.Nat.{ℕ, _+_, _≤_, _<_}
+use native.Mathlib.Omega.{arith}
+use mathlib.Core.Path.{_≡_, refl, sym, _∙_, ap, ap₂, subst}
+use mathlib.Core.Logic.{_⊎_, inl, inr}
+use mathlib.Core.Bool.{Bool, cond, _||_}
+use mathlib.Core.List.{List, [], _∷_, _++_}
+use lib.Dec.{ltb}
+use lib.ListN.{length, take, drop}
+use lib.Seq.{take-append-seam, drop-append-seam}
+use Rattle.basics.specs.Told.{Lent, values, refusal, turnedDown}
+use Rattle.basics.specs.Conditions.{SettlesLent, First, None}
+use Rattle.basics.proofs.Conditions.{Chain, own, test, settles-lent, less, one-of, values-refusal}
+use Rattle.description.specs.Run.{maxText}
+use Rattle.isw_gadget.specs.Text.{iswText}
+use Rattle.isw_gadget.specs.Answers.{maxIswOrder, refusalNumber, iswTold, iswWritten, iswConditions}
+use Rattle.isw_gadget.specs.Reads.{ReadAsProduct, IswSays}
+use Rattle.isw_gadget.specs.declared.Refusal.{Refusal}
+use Rattle.isw_gadget.specs.declared.IswAnswer.{IswAnswer}
+use Rattle.isw_gadget.proofs.Reading.{Fits, written-fits, isw-reads}
+
+pub isw-numbers : (refusalNumber Refusal.OrderOutOfRange ≡ 23) × (refusalNumber Refusal.TextDoesNotFit ≡ 24)
+isw-numbers = (refl, refl)
+
+module _ (order : ℕ) (buffer : List ℕ) where
+  abbrev shown : Lent
+  shown = record { told = values (length (iswText order) ∷ []); held = iswText order ++ drop (length (iswText order)) buffer }
+
+  isw-chain : Chain (λ n. turnedDown n buffer) shown (iswConditions order buffer) (iswWritten order buffer)
+  isw-chain =
+      test 23 (one-of (less order 1) (less maxIswOrder order))
+      (test 24 (less (length buffer) (length (iswText order)))
+      (own (λ n. turnedDown n buffer) shown))
+
+  pub isw-settled : SettlesLent (iswConditions order buffer) buffer (iswWritten order buffer)
+  isw-settled = settles-lent isw-chain (length (iswText order) ∷ []) refl
+
+  -- ---- what an answer says
+
+  module _ (answer : IswAnswer) (held : List ℕ) (e : iswTold answer held ≡ iswWritten order buffer) where
+    -- a length is told: no condition holds, and the text stands in the buffer
+    written-none : (size : ℕ) → answer ≡ IswAnswer.Written size → None (iswConditions order buffer)
+    written-none size f =
+        isw-settled .settles .answered .0
+        (size ∷ [], ap (λ (l : Lent). l .told) (sym e) ∙ ap (λ (a : IswAnswer). iswTold a held .told) f)
+
+    written-shown : (size : ℕ) → answer ≡ IswAnswer.Written size → (size ≡ length (iswText order)) × (held ≡ shown .held)
+    written-shown size f =
+        let same : iswTold (IswAnswer.Written size) held ≡ shown =
+        ap (λ (a : IswAnswer). iswTold a held) (sym f) ∙ e ∙ isw-chain .none (written-none size f) in
+        (first-value same, ap (λ (l : Lent). l .held) same)
+      where
+        first-value : iswTold (IswAnswer.Written size) held ≡ shown → size ≡ length (iswText order)
+        first-value same = let t : values (size ∷ []) ≡ values (length (iswText order) ∷ []) = ap (λ (l : Lent). l .told) same in cc
+
+    text-stands : (size : ℕ) → answer ≡ IswAnswer.Written size → (take size held ≡ iswText order) × (drop size held ≡ drop size buffer)
+    text-stands size f =
+        let s = written-shown size f in (
+          ap₂ (λ (k : ℕ) (l : List ℕ). take k l) (s .0) (s .1) ∙ take-append-seam (iswText order) (drop (length (iswText order)) buffer),
+          ap₂ (λ (k : ℕ) (l : List ℕ). drop k l) (s .0) (s .1) ∙ drop-append-seam (iswText order) (drop (length (iswText order)) buffer)
+              ∙ ap (λ (k : ℕ). drop k buffer) (sym (s .0)),
+        )
+
+    order-written : (size : ℕ) → answer ≡ IswAnswer.Written size → (1 ≤ order) × (order ≤ maxIswOrder)
+    order-written size f =
+        let none = written-none size f in
+        let low : order < 1 → ⊥ = λ h. none .0 (inl h) in
+        let high : maxIswOrder < order → ⊥ = λ h. none .0 (inr h) in
+        (omega arith, omega arith)
+
+    refused-first : (why : Refusal) → answer ≡ IswAnswer.Refused why → First (iswConditions order buffer) (refusalNumber why)
+    refused-first why f =
+        isw-settled .settles .refused (refusalNumber why) .0
+        (ap (λ (l : Lent). l .told) (sym e) ∙ ap (λ (a : IswAnswer). iswTold a held .told) f)
+
+    -- the text of an order that is written fits a buffer for the longest text
+    room-enough : (n : ℕ) → First (iswConditions order buffer) n → maxText ≤ length buffer → (order < 1) ⊎ (maxIswOrder < order)
+    room-enough n (inl h) room = h .0
+    room-enough n (inr (right, inl h)) room =
+        let low : order < 1 → ⊥ = λ l. right (inl l) in
+        let high : maxIswOrder < order → ⊥ = λ l. right (inr l) in
+        let short = written-fits order (omega arith) (omega arith) .short in
+        let long = h .0 in
+        absurd (omega (arith, short, long, room))
+    room-enough n (inr (right, inr h)) room = absurd (h .1)
+
+    pub answer-says : IswSays answer order buffer held
+    answer-says = record {
+      stands = text-stands;
+      reads = λ size f.
+          let o = order-written size f in
+          subst (ReadAsProduct order) (sym (text-stands size f .0)) (isw-reads order (written-fits order (o .0) (o .1)));
+      kept = λ why f.
+          ap (λ (a : IswAnswer). iswTold a held .held) (sym f) ∙ ap (λ (l : Lent). l .held) e
+          ∙ isw-settled .kept (refusalNumber why) (ap (λ (l : Lent). l .told) (sym e) ∙ ap (λ (a : IswAnswer). iswTold a held .told) f);
+      enough = λ why f. room-enough (refusalNumber why) (refused-first why f);
+    }
