@@ -7,7 +7,7 @@ use Prim.Native.Nat.{ℕ}
 use mathlib.Core.Path.{_≡_, refl, _∙_, ap}
 use mathlib.Core.List.{List, []}
 use Rattle.basics.specs.Told.{Told, Lent, values, refusal}
-use Rattle.verdict.specs.Answers.{written}
+use Rattle.verdict_answers.specs.Answers.{written}
 use Rattle.calduvren.specs.Calls.{got, answered, lentAnswered, lentJudged}
 use Rattle.calduvren.specs.Meaning.{Kept}
 

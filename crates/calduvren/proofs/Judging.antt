@@ -17,14 +17,14 @@ use Rattle.records.specs.Layout.{wireAt}
 use Rattle.table.specs.declared.FunctionAnswer.{FunctionAnswer}
 use Rattle.table.specs.declared.Refusal as table-refusal
 use Rattle.table.specs.Answers as table-answers
-use Rattle.verdict.specs.declared.VerdictAnswer.{VerdictAnswer}
-use Rattle.verdict.specs.declared.RangeAnswer.{RangeAnswer}
-use Rattle.verdict.specs.declared.DependenceAnswer.{DependenceAnswer}
-use Rattle.verdict.specs.declared.Refusal.{Refusal}
-use Rattle.verdict.specs.Answers.{refusalNumber, verdictTold, rangeTold, dependenceTold, notionOf, verdictOf, rangeCheck, setDependence}
-use Rattle.verdict.specs.Guarantee.{Guarantee}
-use Rattle.verdict.specs.First.{VerdictFinds, RangeFinds}
-use Rattle.verdict.specs.Dependence.{DependenceMeans}
+use Rattle.verdict_answers.specs.declared.VerdictAnswer.{VerdictAnswer}
+use Rattle.verdict_answers.specs.declared.RangeAnswer.{RangeAnswer}
+use Rattle.verdict_answers.specs.declared.DependenceAnswer.{DependenceAnswer}
+use Rattle.verdict_answers.specs.declared.Refusal.{Refusal}
+use Rattle.verdict_answers.specs.Answers.{refusalNumber, verdictTold, rangeTold, dependenceTold, notionOf, verdictOf, rangeCheck, setDependence}
+use Rattle.verdict_answers.specs.Guarantee.{Guarantee}
+use Rattle.verdict_answers.specs.First.{VerdictFinds, RangeFinds}
+use Rattle.verdict_answers.specs.Dependence.{DependenceMeans}
 use Rattle.calduvren.specs.Calls.{got, lentJudged}
 use Rattle.calduvren.specs.Meaning.{Kept, FunctionSays, VerdictSays, VerdictShows, RangeShows, DependenceSays}
 use Rattle.calduvren.proofs.Answering.{Numbers, numbers-gave, numbers-refused, judged-refused, kept-0}

@@ -22,8 +22,8 @@ use Rattle.revolving.specs.Order.{setAt}
 use Rattle.sets.specs.Answers.{refusalNumber, countTold, setTold, rankTold, jobTold, setCount, setFromRank, rankFromSet, jobRanks}
 use Rattle.revolving.proofs.Rising.{isSet-parts}
 use Rattle.revolving.proofs.Revolving.{set-at-is-set}
-use Rattle.verdict.specs.Answers.{written}
-use Rattle.verdict.proofs.Accepting.{written-front, written-rest}
+use Rattle.verdict_answers.specs.Answers.{written}
+use Rattle.verdict_answers.proofs.Accepting.{written-front, written-rest}
 use Rattle.calduvren.specs.Calls.{got, lentAnswered}
 use Rattle.calduvren.specs.Meaning.{Kept, CountSays, SetSays, RankSays, JobSays}
 use Rattle.calduvren.proofs.Answering.{Numbers, numbers-gave, numbers-refused, lent-refused, kept-0}

@@ -30,8 +30,8 @@ use Rattle.report_text.specs.declared.Refusal as report-refusal
 use Rattle.report_text.specs.Report as report
 use Rattle.calduvren.specs.Calls.{got, lentAnswered, lentRead}
 use Rattle.calduvren.specs.Meaning.{Kept, ReadSays, PartSays, ReportSays}
-use Rattle.verdict.specs.Answers.{written}
-use Rattle.verdict.proofs.Accepting.{written-front, written-rest}
+use Rattle.verdict_answers.specs.Answers.{written}
+use Rattle.verdict_answers.proofs.Accepting.{written-front, written-rest}
 use Rattle.calduvren.proofs.Answering.{Numbers, numbers-gave, numbers-refused, lent-refused, kept-0}
 
 -- a refusal's number is not 0, so status 0 is no refusal

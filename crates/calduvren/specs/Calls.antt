@@ -9,7 +9,7 @@
 use Prim.Native.Nat.{ℕ}
 use mathlib.Core.List.{List, [], _∷_, _++_}
 use Rattle.basics.specs.Told.{Told, Lent, values, refusal}
-use Rattle.verdict.specs.Answers.{written}
+use Rattle.verdict_answers.specs.Answers.{written}
 use Rattle.reader.specs.Answers.{ReadTold, gives, refused, ReadLent}
 
 pub record Called : Type 0 where

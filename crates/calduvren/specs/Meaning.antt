@@ -29,10 +29,10 @@ use Rattle.counts.specs.Counts.{binom}
 use Rattle.revolving.specs.Order.{setAt, rankOf}
 use Rattle.sets.specs.Division.{start}
 use Rattle.table.specs.Answers.{tableCheck}
-use Rattle.verdict.specs.Answers.{notionOf}
+use Rattle.verdict_answers.specs.Answers.{notionOf}
 use Rattle.search.specs.Search.{isBreaking}
-use Rattle.verdict.specs.Guarantee.{Watched, HasChoice, Shown}
-use Rattle.verdict.specs.First.{FirstBreaking, FirstInRange}
+use Rattle.verdict_answers.specs.Guarantee.{Watched, HasChoice, Shown}
+use Rattle.verdict_answers.specs.First.{FirstBreaking, FirstInRange}
 use Rattle.description.specs.Grammar.{Description, Spells}
 use Rattle.reader.specs.Answers.{textPart}
 use Rattle.reader.specs.Reads.{Readable, Given}

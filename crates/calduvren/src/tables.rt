@@ -3,13 +3,13 @@ ghost use mathlib.Core.Path.{_≡_};
 ghost use mathlib.Core.List.{[], _∷_};
 ghost use Rattle.basics.specs.Folds.{oneIf};
 ghost use Rattle.table.specs.Answers.{functionCheck};
-ghost use Rattle.verdict.specs.Answers.{verdictOf, rangeCheck, setDependence};
+ghost use Rattle.verdict_answers.specs.Answers.{verdictOf, rangeCheck, setDependence};
 ghost use Rattle.calduvren.specs.Calls.{got, answered, lentJudged};
 ghost use Rattle.calduvren.specs.Meaning.{Kept, FunctionSays, VerdictSays, VerdictShows, RangeShows, DependenceSays};
 use table::FunctionAnswer;
-use verdict::DependenceAnswer;
-use verdict::RangeAnswer;
-use verdict::VerdictAnswer;
+use verdict_answers::DependenceAnswer;
+use verdict_answers::RangeAnswer;
+use verdict_answers::VerdictAnswer;
 
 // Whether the outer wires add up to a function.
 #[no_mangle]

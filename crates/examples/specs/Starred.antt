@@ -27,7 +27,7 @@ use Rattle.wires.specs.declared.Notion.{Notion}
 use Rattle.sets.specs.Answers.{setCount, setFromRank, rankFromSet, jobRanks}
 use Rattle.sets.specs.Visits.{SetTells}
 use Rattle.search.specs.Search.{isBreaking}
-use Rattle.verdict.specs.Answers.{rangeCheck, setDependence}
+use Rattle.verdict_answers.specs.Answers.{rangeCheck, setDependence}
 use Rattle.reader.specs.Answers.{ReadTold, gives, refused, readText}
 use Rattle.verdict_lines.specs.Lines.{emptySet}
 use Rattle.report_text.specs.Report.{emptyTable, maxReport, reportText}

@@ -16,7 +16,7 @@ use records::sums::wire_record;
 use tokens::bytes::digit_value;
 use tokens::bytes::is_digit;
 use tokens::bytes::stands;
-use verdict::DependenceAnswer;
+use verdict_answers::DependenceAnswer;
 
 // No wire: its numbers have 16 bits.
 const NO_WIRE: usize = 65536;

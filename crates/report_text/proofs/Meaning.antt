@@ -32,9 +32,9 @@ use Rattle.wires.proofs.Function.{computes-exactly}
 use Rattle.records.specs.Layout.{wires}
 use Rattle.table.specs.Answers.{tableCheck, functionCheck}
 use Rattle.table.proofs.Conditions.{accepted-exactly, tested-answer}
-use Rattle.verdict.specs.Answers.{verdictOf}
-use Rattle.verdict.specs.Jobs.{Ordered}
-use Rattle.verdict.proofs.Conditions.{verdict-ordered}
+use Rattle.verdict_answers.specs.Answers.{verdictOf}
+use Rattle.verdict_answers.specs.Jobs.{Ordered}
+use Rattle.verdict_answers.proofs.Conditions.{verdict-ordered}
 use Rattle.description.specs.declared.Listed.{Listed}
 use Rattle.description.specs.declared.Refusal.{Refusal}
 use Rattle.description.specs.Listing.{recordsOf}

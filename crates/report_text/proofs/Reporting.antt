@@ -18,8 +18,8 @@ use Rattle.description.specs.Run as description
 use Rattle.reader.specs.declared.ReadAnswer.{ReadAnswer}
 use Rattle.reader.specs.Answers.{ReadLent, readTold, readText}
 use Rattle.reader.specs.Reads.{ReadsGrammar}
-use Rattle.verdict.specs.declared.Refusal.{Refusal}
-use Rattle.verdict.specs.Answers as verdicts
+use Rattle.verdict_answers.specs.declared.Refusal.{Refusal}
+use Rattle.verdict_answers.specs.Answers as verdicts
 use Rattle.description.specs.declared.Refusal as reading
 use Rattle.report_text.specs.declared.Refusal as report-texts
 use Rattle.report_text.specs.declared.ReportAnswer.{ReportAnswer}

@@ -18,7 +18,7 @@ use Rattle.limits.specs.Limits.{recordBytes, maxTableBytes}
 use Rattle.basics.specs.Quoted.{bytes}
 use Rattle.basics.specs.Told.{Told, Lent, values, refusal, turnedDown}
 use Rattle.table.specs.Answers.{functionCheck}
-use Rattle.verdict.specs.Answers.{written}
+use Rattle.verdict_answers.specs.Answers.{written}
 use Rattle.reader.specs.Answers.{ReadTold, gives, refused, ReadLent, readText}
 use Rattle.pages.specs.Decimal.{decimal}
 use Rattle.verdict_lines.specs.Lines.{notionLine}

@@ -9,9 +9,9 @@ use sets::CountAnswer;
 use sets::JobAnswer;
 use try_cases::case_end;
 use try_cases::wide;
-use verdict::RangeAnswer;
-use verdict::Refusal;
-use verdict::VerdictAnswer;
+use verdict_answers::RangeAnswer;
+use verdict_answers::Refusal;
+use verdict_answers::VerdictAnswer;
 
 mod edges;
 

@@ -16,10 +16,11 @@ use Rattle.wires.specs.declared.Notion.the-variants.{Ni, Sni}
 use Rattle.table.specs.Answers.{tableCheck}
 use Rattle.table.specs.Conditions.{tableConditions}
 use Rattle.table.proofs.Conditions.{Sound, sound-none, none-sound, accepted-exactly, tested-answer, tested-refusal}
+use Rattle.verdict_answers.specs.Answers.{wrongNotion, notionOf, opened}
+use Rattle.verdict_answers.specs.Conditions.{WrongNotion}
+use Rattle.verdict_answers.proofs.Conditions.{opened-chain}
 use Rattle.verdict.specs.declared.Opened.{Opened}
-use Rattle.verdict.specs.Answers.{wrongNotion, notionOf, notionNumber, opened, openedTold, opens}
-use Rattle.verdict.specs.Conditions.{WrongNotion}
-use Rattle.verdict.proofs.Conditions.{opened-chain}
+use Rattle.verdict.specs.Opening.{notionNumber, openedTold, opens}
 
 known : (kind : Notion) → wrongNotion (notionNumber kind) ≡ false
 unfolding notionNumber

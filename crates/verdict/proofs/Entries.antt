@@ -23,18 +23,19 @@ use Rattle.table.proofs.Conditions.{accepted-exactly}
 use Rattle.table.proofs.Entries.{set-decided}
 use Rattle.revolving.specs.Order.{revolving, setAt, isSet}
 use Rattle.revolving.proofs.Revolving.{revolving-length, set-at-is-set}
-use Rattle.verdict.specs.declared.Refusal.{Refusal}
-use Rattle.verdict.specs.declared.Refusal.the-variants.{OrderOutOfRange, BufferTooShort}
-use Rattle.verdict.specs.declared.Opened.{Opened}
-use Rattle.verdict.specs.declared.VerdictAnswer.{VerdictAnswer}
+use Rattle.verdict_answers.specs.declared.Refusal.{Refusal}
+use Rattle.verdict_answers.specs.declared.Refusal.the-variants.{OrderOutOfRange, BufferTooShort}
+use Rattle.verdict_answers.specs.declared.VerdictAnswer.{VerdictAnswer}
 use Rattle.search.specs.Search.{searched, stretch, isBreaking, first, FirstSet}
-use Rattle.verdict.specs.Answers.{refusalNumber, verdictTold, wrongOrder, notionOf, openedTold, opens, written, firstShown, verdictOf}
-use Rattle.verdict.specs.Guarantee.{Guarantee}
-use Rattle.verdict.proofs.Conditions.{verdict-answered}
+use Rattle.verdict_answers.specs.Answers.{refusalNumber, verdictTold, wrongOrder, notionOf, written, firstShown, verdictOf}
+use Rattle.verdict_answers.specs.Guarantee.{Guarantee}
+use Rattle.verdict_answers.proofs.Conditions.{verdict-answered}
 use Rattle.search.proofs.Keeping.{each-place, each-take, each-drop, keep-same}
 use Rattle.search.proofs.Turns.{set-inside}
+use Rattle.verdict_answers.proofs.Watching.{each-searched, shown-none, holds, broken, refused}
+use Rattle.verdict.specs.declared.Opened.{Opened}
+use Rattle.verdict.specs.Opening.{openedTold, opens}
 use Rattle.verdict.proofs.Admitting.{Opens, opens-notion, opened-answer, opened-refusal}
-use Rattle.verdict.proofs.Watching.{each-searched, shown-none, holds, broken, refused}
 
 -- ---- all bits of a record, or the gadget's own
 

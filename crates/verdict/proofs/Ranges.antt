@@ -20,12 +20,13 @@ use Rattle.counts.specs.Counts.{binom}
 use Rattle.revolving.specs.Order.{setAt}
 use Rattle.revolving.proofs.Rising.{isSet-parts}
 use Rattle.revolving.proofs.Revolving.{set-at-is-set, rank-of-set}
-use Rattle.verdict.specs.declared.Opened.{Opened}
-use Rattle.verdict.specs.declared.RangeAnswer.{RangeAnswer}
+use Rattle.verdict_answers.specs.declared.RangeAnswer.{RangeAnswer}
 use Rattle.search.specs.Search.{stretch, isBreaking, first, FirstRank}
-use Rattle.verdict.specs.Answers.{rangeTold, notionOf, openedTold, opens, written, firstRanked, rangeCheck}
-use Rattle.verdict.proofs.Conditions.{range-answered}
+use Rattle.verdict_answers.specs.Answers.{rangeTold, notionOf, written, firstRanked, rangeCheck}
+use Rattle.verdict_answers.proofs.Conditions.{range-answered}
 use Rattle.search.proofs.Turns.{rank-first}
+use Rattle.verdict.specs.declared.Opened.{Opened}
+use Rattle.verdict.specs.Opening.{openedTold, opens}
 use Rattle.verdict.proofs.Admitting.{opened-answer, opened-refusal}
 use Rattle.verdict.proofs.Entries.{stretch-decided, opened-for, short}
 

@@ -8,7 +8,7 @@ use mathlib.Core.Path.{_≡_, sym, _∙_, ap, ap₂}
 use mathlib.Core.List.{List, _++_}
 use lib.ListN.{length, getD, set, take, drop}
 use lib.Seq.{paste, paste-zero, paste-suc, take-length}
-use Rattle.verdict.specs.Answers.{written}
+use Rattle.verdict_answers.specs.Answers.{written}
 use Rattle.search.proofs.Keeping.{take-none}
 
 abbrev pub begun : List ℕ → List ℕ → ℕ → List ℕ

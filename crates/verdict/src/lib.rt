@@ -5,11 +5,11 @@
 ghost use mathlib.Core.Path.{_≡_};
 ghost use Prim.Native.Nat.{_≤_};
 ghost use lib.ListN.{length};
-ghost use Rattle.verdict.specs.Answers.{refusalNumber, openedTold, opens, verdictTold, verdictOf, rangeTold, rangeCheck, written};
-ghost use Rattle.verdict.specs.Answers.{dependenceTold, setDependence};
-ghost use Rattle.verdict.specs.First.{VerdictFinds, RangeFinds};
-ghost use Rattle.verdict.specs.Guarantee.{Guarantee};
-ghost use Rattle.verdict.specs.Dependence.{DependenceMeans};
+ghost use Rattle.verdict_answers.specs.Answers.{verdictTold, verdictOf, rangeTold, rangeCheck, written, dependenceTold, setDependence};
+ghost use Rattle.verdict_answers.specs.First.{VerdictFinds, RangeFinds};
+ghost use Rattle.verdict_answers.specs.Guarantee.{Guarantee};
+ghost use Rattle.verdict_answers.specs.Dependence.{DependenceMeans};
+ghost use Rattle.verdict.specs.Opening.{openedTold, opens};
 use counts::count;
 use limits::MAX_SIZE;
 use limits::RECORD_BYTES;
@@ -20,60 +20,11 @@ use records::sums::sum_of_set;
 use revolving::is_rising;
 use table::TableAnswer;
 use table::table_check;
+use verdict_answers::DependenceAnswer;
+use verdict_answers::RangeAnswer;
+use verdict_answers::Refusal;
+use verdict_answers::VerdictAnswer;
 use wires::Notion;
-
-// Why an entry turns its arguments down.
-pub enum Refusal {
-    Table(table::Refusal),
-    NoSuchNotion,
-    OrderOutOfRange,
-    BufferTooShort,
-    SizeTooLarge,
-    RanksOutOfRange,
-    NotASet,
-}
-
-impl Refusal {
-    // The scope's number of the refusal.
-    pub fn number(self) -> u64
-        ensures { λ r. ⌜ r ≡ refusalNumber self ⌝ }
-    {
-        match self {
-            Refusal::Table(why) => why.number(),
-            Refusal::NoSuchNotion => 14,
-            Refusal::OrderOutOfRange => 15,
-            Refusal::BufferTooShort => 16,
-            Refusal::SizeTooLarge => 17,
-            Refusal::RanksOutOfRange => 18,
-            Refusal::NotASet => 21,
-        }
-    }
-}
-
-// Broken gives the size of the set that is written.
-pub enum VerdictAnswer {
-    Holds,
-    Broken { size: usize },
-    Refused(Refusal),
-}
-
-// Found gives the size of the set that is written, and its rank.
-pub enum RangeAnswer {
-    Clean,
-    Found { size: usize, rank: u64 },
-    Refused(Refusal),
-}
-
-// On how many shares of a and of b the set depends, how many of each the notion allows it, and whether a mask is left in its sum.
-pub enum DependenceAnswer {
-    Depends {
-        of_a: usize,
-        of_b: usize,
-        allowed: usize,
-        masked: bool,
-    },
-    Refused(Refusal),
-}
 
 // The notion that was asked for, on a table that passed its tests.
 enum Opened {

@@ -27,15 +27,15 @@ use Rattle.watcher.proofs.Choice.{choice}
 use Rattle.records.specs.Layout.{wireAt, wireCount}
 use Rattle.revolving.specs.Order.{rankOf}
 use Rattle.search.specs.Search.{searched, isBreaking}
-use Rattle.verdict.specs.Answers.{notionOf, written, firstShown, setDependence}
-use Rattle.verdict.specs.Guarantee.{Watched, HasChoice}
-use Rattle.verdict.specs.First.{NotAfter, FirstBreaking}
-use Rattle.verdict.specs.Jobs.{Ordered}
-use Rattle.verdict.specs.Dependence.{LeaksA, LeaksB, Leaking}
-use Rattle.verdict.proofs.Conditions.{verdict-answered}
-use Rattle.verdict.proofs.Watching.{pick-watched, all-choose, shown-none}
-use Rattle.verdict.proofs.First.{first-is}
-use Rattle.verdict.proofs.Dependence.{first-leaks}
+use Rattle.verdict_answers.specs.Answers.{notionOf, written, firstShown, setDependence}
+use Rattle.verdict_answers.specs.Guarantee.{Watched, HasChoice}
+use Rattle.verdict_answers.specs.First.{NotAfter, FirstBreaking}
+use Rattle.verdict_answers.specs.Jobs.{Ordered}
+use Rattle.verdict_answers.specs.Dependence.{LeaksA, LeaksB, Leaking}
+use Rattle.verdict_answers.proofs.Conditions.{verdict-answered}
+use Rattle.verdict_answers.proofs.Watching.{pick-watched, all-choose, shown-none}
+use Rattle.verdict_answers.proofs.First.{first-is}
+use Rattle.verdict_answers.proofs.Dependence.{first-leaks}
 use Rattle.pages.specs.Page.{wireNumbers}
 use Rattle.pages.proofs.Writing.{apart}
 use Rattle.verdict_lines.specs.Lines.{operandsNamed, operands, notionName, verdictSaid, emptySet, notionLine}

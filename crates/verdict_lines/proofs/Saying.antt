@@ -15,11 +15,11 @@ use lib.Dec.{ltb}
 use lib.ListN.{length, take}
 use Rattle.basics.specs.Quoted.{bytes}
 use Rattle.basics.specs.Told.{Told, Lent}
-use Rattle.verdict.specs.declared.Refusal.{Refusal}
-use Rattle.verdict.specs.declared.VerdictAnswer.{VerdictAnswer}
-use Rattle.verdict.specs.declared.DependenceAnswer.{DependenceAnswer}
-use Rattle.verdict.specs.Answers as verdicts
-use Rattle.verdict.specs.Guarantee.{Guarantee}
+use Rattle.verdict_answers.specs.declared.Refusal.{Refusal}
+use Rattle.verdict_answers.specs.declared.VerdictAnswer.{VerdictAnswer}
+use Rattle.verdict_answers.specs.declared.DependenceAnswer.{DependenceAnswer}
+use Rattle.verdict_answers.specs.Answers as verdicts
+use Rattle.verdict_answers.specs.Guarantee.{Guarantee}
 use Rattle.pages.specs.Decimal.{decimal}
 use Rattle.pages.specs.Page.{Wrote}
 use Rattle.pages.proofs.Writing.{part-start}

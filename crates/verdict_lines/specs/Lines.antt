@@ -14,7 +14,7 @@ use lib.ListN.{take, replicate}
 use Rattle.limits.specs.Limits.{maxSize}
 use Rattle.basics.specs.Quoted.{bytes}
 use Rattle.basics.specs.Told.{Told, Lent, values, refusal}
-use Rattle.verdict.specs.Answers.{verdictOf, setDependence}
+use Rattle.verdict_answers.specs.Answers.{verdictOf, setDependence}
 use Rattle.pages.specs.Decimal.{decimal}
 use Rattle.pages.specs.Page.{wireNumbers}
 

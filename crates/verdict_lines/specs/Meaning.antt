@@ -9,9 +9,9 @@ use mathlib.Core.List.{List, _++_}
 use lib.ListN.{length}
 use Rattle.basics.specs.Quoted.{bytes}
 use Rattle.records.specs.Layout.{wireCount}
-use Rattle.verdict.specs.Guarantee.{Watched, HasChoice}
-use Rattle.verdict.specs.First.{NotAfter}
-use Rattle.verdict.specs.Dependence.{LeaksA, LeaksB}
+use Rattle.verdict_answers.specs.Guarantee.{Watched, HasChoice}
+use Rattle.verdict_answers.specs.First.{NotAfter}
+use Rattle.verdict_answers.specs.Dependence.{LeaksA, LeaksB}
 use Rattle.pages.specs.Page.{wireNumbers}
 use Rattle.verdict_lines.specs.Lines.{notionName}
 

@@ -2,15 +2,15 @@
 // and the set dependence promise, and asks for room on the page.
 ghost use Prim.Native.Nat.{_≤_, _+_, _*_};
 ghost use lib.ListN.{length};
-ghost use Rattle.verdict.specs.Answers.{verdictOf, setDependence};
+ghost use Rattle.verdict_answers.specs.Answers.{verdictOf, setDependence};
 ghost use Rattle.pages.specs.Page.{Wrote};
 ghost use Rattle.verdict_lines.specs.Lines.{notionName, emptySet, operandsNamed, operands, brokenSaid, verdictSaid, notionLine};
 use limits::MAX_SIZE;
 use pages::write_named;
 use pages::write_text;
 use pages::write_wires;
-use verdict::DependenceAnswer;
-use verdict::VerdictAnswer;
+use verdict_answers::DependenceAnswer;
+use verdict_answers::VerdictAnswer;
 
 // The verdict for NI, 1, or SNI, 2, at an order.
 pub fn notion_line(

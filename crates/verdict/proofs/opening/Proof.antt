@@ -4,7 +4,7 @@ use mathlib.Core.Path.{sym, _∙_, ap}
 use borrow.Author.Needs.{needs}
 use Rattle.wires.specs.declared.Notion.the-variants.{Ni, Sni}
 use Rattle.table.specs.Answers.{tableTold}
-use Rattle.verdict.specs.Answers.{notionNumber}
+use Rattle.verdict.specs.Opening.{notionNumber}
 use Rattle.verdict.proofs.Admitting.{open-refused, open-known, open-wrong}
 use Rattle.verdict.proofs.opening.Statement.{statement}
 use Rattle.verdict.proofs.opening.Tie as tie

@@ -6,13 +6,14 @@ use mathlib.Core.Path.{_≡_, sym, _∙_, ap}
 use mathlib.Core.List.{List}
 use borrow.Author.Needs.{needs}
 use Rattle.wires.specs.declared.Notion.{Notion}
+use Rattle.verdict_answers.specs.declared.RangeAnswer.{RangeAnswer}
+use Rattle.verdict_answers.specs.Answers.{rangeTold, rangeCheck}
+use Rattle.verdict_answers.specs.First.{RangeFinds}
+use Rattle.verdict_answers.proofs.Finds.{range-finds}
 use Rattle.verdict.specs.declared.Opened.{Opened}
-use Rattle.verdict.specs.declared.RangeAnswer.{RangeAnswer}
-use Rattle.verdict.specs.Answers.{rangeTold, openedTold, opens, rangeCheck}
-use Rattle.verdict.specs.First.{RangeFinds}
+use Rattle.verdict.specs.Opening.{openedTold, opens}
 use Rattle.verdict.proofs.Entries.{short}
 use Rattle.verdict.proofs.Ranges.{PassedRange, range-bytes, range-before, size-large, range-room, ranks-low, ranks-high, range-clean, range-found}
-use Rattle.verdict.proofs.Finds.{range-finds}
 use Rattle.verdict.proofs.range_check.Statement.{statement}
 use Rattle.verdict.proofs.range_check.Tie as tie
 

@@ -5,7 +5,7 @@ use borrow.Author.Needs.{needs}
 use borrow.Author.Tests.{not-true, not-false}
 use Rattle.wires.specs.declared.Notion.{Notion}
 use Rattle.verdict.specs.declared.Opened.{Opened}
-use Rattle.verdict.specs.Answers.{openedTold, opens}
+use Rattle.verdict.specs.Opening.{openedTold, opens}
 use Rattle.verdict.proofs.Dependence.{refused-first, set-too-large, not-rising, set-counted, rising-inside}
 use Rattle.verdict.proofs.set_dependence.Statement.{statement}
 use Rattle.verdict.proofs.set_dependence.Tie as tie

@@ -5,13 +5,14 @@ use mathlib.Core.Path.{_≡_, sym, _∙_, ap}
 use mathlib.Core.List.{List}
 use borrow.Author.Needs.{needs}
 use Rattle.wires.specs.declared.Notion.{Notion}
+use Rattle.verdict_answers.specs.declared.VerdictAnswer.{VerdictAnswer}
+use Rattle.verdict_answers.specs.Answers.{verdictTold, verdictOf}
+use Rattle.verdict_answers.specs.First.{VerdictFinds}
+use Rattle.verdict_answers.specs.Guarantee.{Guarantee}
+use Rattle.verdict_answers.proofs.Finds.{verdict-finds}
 use Rattle.verdict.specs.declared.Opened.{Opened}
-use Rattle.verdict.specs.declared.VerdictAnswer.{VerdictAnswer}
-use Rattle.verdict.specs.Answers.{openedTold, opens, verdictTold, verdictOf}
-use Rattle.verdict.specs.First.{VerdictFinds}
-use Rattle.verdict.specs.Guarantee.{Guarantee}
+use Rattle.verdict.specs.Opening.{openedTold, opens}
 use Rattle.verdict.proofs.Entries.{Promise, Passed, before, order-low, order-high, no-room, found-none, found-set, bytes, order-small, size-within}
-use Rattle.verdict.proofs.Finds.{verdict-finds}
 use Rattle.verdict.proofs.verdict.Statement.{statement}
 use Rattle.verdict.proofs.verdict.Tie as tie
 

@@ -12,9 +12,9 @@ use lib.ListN.{length, take}
 use Rattle.records.specs.Layout.{wireAt, wireCount}
 use Rattle.revolving.specs.Order.{rising, below}
 use Rattle.watcher.specs.Watcher.{Choice}
-use Rattle.verdict.specs.declared.Refusal.{Refusal}
-use Rattle.verdict.specs.declared.VerdictAnswer.{VerdictAnswer}
-use Rattle.verdict.specs.Answers.{notionOf}
+use Rattle.verdict_answers.specs.declared.Refusal.{Refusal}
+use Rattle.verdict_answers.specs.declared.VerdictAnswer.{VerdictAnswer}
+use Rattle.verdict_answers.specs.Answers.{notionOf}
 
 -- a set is written as the list of its wires, rising; it may be empty, and its wires inner or outer
 pub record Watched (table : List ℕ) (order : ℕ) (set : List ℕ) : Type 0 where

@@ -27,16 +27,16 @@ use Rattle.sets.specs.declared.JobAnswer.{JobAnswer}
 use Rattle.sets.specs.Answers.{jobTold}
 use Rattle.table.specs.declared.Refusal.the-variants.{SharesOrMasks, TableLength, RecordOutOfRange}
 use Rattle.table.proofs.Examples.{record8, tableA, tableB, tableC}
-use Rattle.verdict.specs.declared.Refusal.{Refusal}
-use Rattle.verdict.specs.declared.Refusal.the-variants.{Table, NoSuchNotion, OrderOutOfRange, BufferTooShort, SizeTooLarge, RanksOutOfRange, NotASet}
-use Rattle.verdict.specs.declared.RangeAnswer.{RangeAnswer}
-use Rattle.verdict.specs.declared.VerdictAnswer.{VerdictAnswer}
-use Rattle.verdict.specs.declared.DependenceAnswer.{DependenceAnswer}
+use Rattle.verdict_answers.specs.declared.Refusal.{Refusal}
+use Rattle.verdict_answers.specs.declared.Refusal.the-variants.{Table, NoSuchNotion, OrderOutOfRange, BufferTooShort, SizeTooLarge, RanksOutOfRange, NotASet}
+use Rattle.verdict_answers.specs.declared.RangeAnswer.{RangeAnswer}
+use Rattle.verdict_answers.specs.declared.VerdictAnswer.{VerdictAnswer}
+use Rattle.verdict_answers.specs.declared.DependenceAnswer.{DependenceAnswer}
 use Rattle.search.specs.Search.{searched, isBreaking}
-use Rattle.verdict.specs.Answers.{refusalNumber, verdictTold, rangeTold, dependenceTold, verdictOf, rangeCheck, setDependence}
-use Rattle.verdict.specs.First.{NotAfter, VerdictFinds, RangeFinds}
-use Rattle.verdict.specs.Guarantee.{Guarantee}
-use Rattle.verdict.proofs.Watching.{all-choose}
+use Rattle.verdict_answers.specs.Answers.{refusalNumber, verdictTold, rangeTold, dependenceTold, verdictOf, rangeCheck, setDependence}
+use Rattle.verdict_answers.specs.First.{NotAfter, VerdictFinds, RangeFinds}
+use Rattle.verdict_answers.specs.Guarantee.{Guarantee}
+use Rattle.verdict_answers.proofs.Watching.{all-choose}
 
 -- an answer with values, and a buffer of three numbers
 abbrev gives : List ℕ → ℕ → ℕ → ℕ → Lent

@@ -25,11 +25,11 @@ use Rattle.records.specs.Layout.{wireAt, wireCount}
 use Rattle.revolving.specs.Order.{revolving, setAt, rankOf, rising, below, isSet}
 use Rattle.revolving.proofs.Rising.{Chosen, chosen-true, chosen-is, rising-chosen, isSet-parts, parts-isSet}
 use Rattle.revolving.proofs.Revolving.{revolving-length, set-at-is-set, set-of-rank}
-use Rattle.verdict.specs.declared.Refusal.{Refusal}
-use Rattle.verdict.specs.declared.VerdictAnswer.{VerdictAnswer}
+use Rattle.verdict_answers.specs.declared.Refusal.{Refusal}
+use Rattle.verdict_answers.specs.declared.VerdictAnswer.{VerdictAnswer}
 use Rattle.search.specs.Search.{searched, isBreaking}
-use Rattle.verdict.specs.Answers.{notionOf}
-use Rattle.verdict.specs.Guarantee.{Watched, HasChoice, Shown, Guarantee}
+use Rattle.verdict_answers.specs.Answers.{notionOf}
+use Rattle.verdict_answers.specs.Guarantee.{Watched, HasChoice, Shown, Guarantee}
 use Rattle.search.proofs.Keeping.{Each, each-place, at-place, each-append, each-parts, keep-first, keep-none}
 use Rattle.search.proofs.Turns.{searched-none, searched-suc}
 

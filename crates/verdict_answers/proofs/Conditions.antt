@@ -23,10 +23,10 @@ use Rattle.table.proofs.Conditions.{table-chain, sound-none, none-sound, accept
 use Rattle.sets.proofs.Conditions.{rising-fails, below-fails}
 use Rattle.revolving.specs.Order.{rankOf, rising, below}
 use Rattle.search.specs.Search.{searched, stretch, breakingSets}
-use Rattle.verdict.specs.Answers.{notionOf, opened, firstShown, firstRanked, verdictOf, rangeCheck, depended, setDependence}
-use Rattle.verdict.specs.Jobs.{Ordered, Asked}
-use Rattle.verdict.specs.Conditions.{WrongNotion, verdictConditions, rangeConditions, dependenceConditions}
-use Rattle.verdict.specs.Dependence.{SetAsked}
+use Rattle.verdict_answers.specs.Answers.{notionOf, opened, firstShown, firstRanked, verdictOf, rangeCheck, depended, setDependence}
+use Rattle.verdict_answers.specs.Jobs.{Ordered, Asked}
+use Rattle.verdict_answers.specs.Conditions.{WrongNotion, verdictConditions, rangeConditions, dependenceConditions}
+use Rattle.verdict_answers.specs.Dependence.{SetAsked}
 
 shown-told : (l : List (List ℕ)) (buffer : List ℕ) → (v : List ℕ) × (firstShown l buffer .told ≡ values v)
 shown-told [] buffer = ([], refl)

@@ -16,8 +16,8 @@ use Rattle.basics.specs.Told.{Lent, values}
 use Rattle.records.specs.Layout.{wireCount}
 use Rattle.table.specs.Answers.{tableCheck}
 use Rattle.sets.specs.Answers.{jobRanks}
-use Rattle.verdict.specs.Answers.{written, rangeCheck}
-use Rattle.verdict.specs.Conditions.{WrongNotion}
+use Rattle.verdict_answers.specs.Answers.{written, rangeCheck}
+use Rattle.verdict_answers.specs.Conditions.{WrongNotion}
 
 abbrev pub nothing : List ℕ → Lent
 nothing buffer = record { told = values []; held = buffer }

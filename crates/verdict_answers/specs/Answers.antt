@@ -5,9 +5,7 @@
 --     dependenceTold             the same, where nothing is lent
 --     wrongNotion, wrongOrder    the tests 14 and 15
 --     notionOf                   the notion of a number: 1 NI, 2 SNI
---     notionNumber               the number of a notion
 --     opened                     the tests of a table and of the notion, then what the operation itself answers
---     openedTold, opens          what these tests tell by themselves
 --     written                    a set at the start of a buffer
 --     firstShown, firstRanked    the answer that shows the first of a list of sets, without its rank and with it
 --     verdictOf, rangeCheck      what each entry is to tell, and what the buffer is to hold
@@ -27,12 +25,11 @@ use Rattle.records.specs.Layout.{wireAt, wireCount}
 use Rattle.table.specs.Answers as table-answers
 use Rattle.counts.specs.Counts.{binom}
 use Rattle.revolving.specs.Order.{rankOf, rising, below}
-use Rattle.verdict.specs.declared.Refusal.{Refusal}
-use Rattle.verdict.specs.declared.Refusal.the-variants.{Table, NoSuchNotion, OrderOutOfRange, BufferTooShort, SizeTooLarge, RanksOutOfRange, NotASet}
-use Rattle.verdict.specs.declared.Opened.{Opened}
-use Rattle.verdict.specs.declared.VerdictAnswer.{VerdictAnswer}
-use Rattle.verdict.specs.declared.RangeAnswer.{RangeAnswer}
-use Rattle.verdict.specs.declared.DependenceAnswer.{DependenceAnswer}
+use Rattle.verdict_answers.specs.declared.Refusal.{Refusal}
+use Rattle.verdict_answers.specs.declared.Refusal.the-variants.{Table, NoSuchNotion, OrderOutOfRange, BufferTooShort, SizeTooLarge, RanksOutOfRange, NotASet}
+use Rattle.verdict_answers.specs.declared.VerdictAnswer.{VerdictAnswer}
+use Rattle.verdict_answers.specs.declared.RangeAnswer.{RangeAnswer}
+use Rattle.verdict_answers.specs.declared.DependenceAnswer.{DependenceAnswer}
 use Rattle.search.specs.Search.{searched, stretch, breakingSets}
 
 abbrev pub refusalNumber : Refusal → ℕ
@@ -75,17 +72,6 @@ notionOf notion = cond (eqb notion 1) Ni Sni
 -- every operation on a table first makes these tests, in this order
 abbrev pub opened : {A : Type 0} → (ℕ → A) → List ℕ → ℕ → ℕ → ℕ → A → A
 opened refuse table shares masks notion answer = table-answers.tested refuse table shares masks (cond (wrongNotion notion) (refuse 14) answer)
-
-unfoldable pub notionNumber : Notion → ℕ
-notionNumber Ni = 1
-notionNumber Sni = 2
-
-abbrev pub openedTold : Opened → Told
-openedTold (Opened.For kind) = values (notionNumber kind ∷ [])
-openedTold (Opened.Refused why) = refusal (refusalNumber why)
-
-abbrev pub opens : List ℕ → ℕ → ℕ → ℕ → Told
-opens table shares masks notion = opened refusal table shares masks notion (values (notion ∷ []))
 
 -- what lies past the set is as it was
 abbrev pub written : List ℕ → List ℕ → List ℕ

@@ -13,12 +13,12 @@ use mathlib.Core.List.{List}
 use lib.ListN.{length, take, drop}
 use Rattle.records.specs.Layout.{wireCount}
 use Rattle.revolving.specs.Order.{setAt, rankOf}
-use Rattle.verdict.specs.declared.Refusal.{Refusal}
-use Rattle.verdict.specs.declared.VerdictAnswer.{VerdictAnswer}
-use Rattle.verdict.specs.declared.RangeAnswer.{RangeAnswer}
+use Rattle.verdict_answers.specs.declared.Refusal.{Refusal}
+use Rattle.verdict_answers.specs.declared.VerdictAnswer.{VerdictAnswer}
+use Rattle.verdict_answers.specs.declared.RangeAnswer.{RangeAnswer}
 use Rattle.search.specs.Search.{isBreaking}
-use Rattle.verdict.specs.Answers.{notionOf}
-use Rattle.verdict.specs.Guarantee.{Watched}
+use Rattle.verdict_answers.specs.Answers.{notionOf}
+use Rattle.verdict_answers.specs.Guarantee.{Watched}
 
 abbrev pub NotAfter : ℕ → List ℕ → List ℕ → Type 0
 NotAfter wires s u = (length s < length u) ⊎ ((length s ≡ length u) × (rankOf wires s ≤ rankOf wires u))

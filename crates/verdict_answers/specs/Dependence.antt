@@ -19,9 +19,9 @@ use Rattle.records.specs.Layout.{wireAt, wireCount}
 use Rattle.revolving.specs.Order.{rising, below}
 use Rattle.table.specs.Answers.{tableCheck}
 use Rattle.search.specs.Search.{isBreaking}
-use Rattle.verdict.specs.declared.DependenceAnswer.{DependenceAnswer}
-use Rattle.verdict.specs.Answers.{notionOf, setDependence}
-use Rattle.verdict.specs.Conditions.{WrongNotion}
+use Rattle.verdict_answers.specs.declared.DependenceAnswer.{DependenceAnswer}
+use Rattle.verdict_answers.specs.Answers.{notionOf, setDependence}
+use Rattle.verdict_answers.specs.Conditions.{WrongNotion}
 
 pub record SetAsked (table : List ℕ) (shares masks notion : ℕ) (set : List ℕ) : Type 0 where
   pub sound : values [] ≡ tableCheck table shares masks

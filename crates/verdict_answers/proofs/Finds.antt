@@ -13,16 +13,16 @@ use Rattle.counts.specs.Counts.{binom}
 use Rattle.revolving.specs.Order.{setAt}
 use Rattle.revolving.proofs.Rising.{isSet-parts}
 use Rattle.revolving.proofs.Revolving.{set-at-is-set}
-use Rattle.verdict.specs.declared.VerdictAnswer.{VerdictAnswer}
-use Rattle.verdict.specs.declared.RangeAnswer.{RangeAnswer}
+use Rattle.verdict_answers.specs.declared.VerdictAnswer.{VerdictAnswer}
+use Rattle.verdict_answers.specs.declared.RangeAnswer.{RangeAnswer}
 use Rattle.search.specs.Search.{searched, stretch, isBreaking}
-use Rattle.verdict.specs.Answers.{refusalNumber, verdictTold, rangeTold, notionOf, firstShown, firstRanked, verdictOf, rangeCheck}
-use Rattle.verdict.specs.First.{FirstBreaking, FirstInRange, VerdictFinds, RangeFinds}
-use Rattle.verdict.specs.Jobs.{found, broken, Ordered, Asked}
-use Rattle.verdict.proofs.Watching.{all-whole}
-use Rattle.verdict.proofs.Accepting.{written-front, written-rest, shown-parts, ranked-parts, shown-nil, ranked-nil}
-use Rattle.verdict.proofs.Conditions.{verdict-settled, range-settled, verdict-answered, range-answered, verdict-ordered, range-asked}
-use Rattle.verdict.proofs.First.{first-is, clean-exactly, finds-exactly}
+use Rattle.verdict_answers.specs.Answers.{refusalNumber, verdictTold, rangeTold, notionOf, firstShown, firstRanked, verdictOf, rangeCheck}
+use Rattle.verdict_answers.specs.First.{FirstBreaking, FirstInRange, VerdictFinds, RangeFinds}
+use Rattle.verdict_answers.specs.Jobs.{found, broken, Ordered, Asked}
+use Rattle.verdict_answers.proofs.Watching.{all-whole}
+use Rattle.verdict_answers.proofs.Accepting.{written-front, written-rest, shown-parts, ranked-parts, shown-nil, ranked-nil}
+use Rattle.verdict_answers.proofs.Conditions.{verdict-settled, range-settled, verdict-answered, range-answered, verdict-ordered, range-asked}
+use Rattle.verdict_answers.proofs.First.{first-is, clean-exactly, finds-exactly}
 
 module _ (table : List ℕ) (shares masks notion order : ℕ) (buffer held : List ℕ) where
   abbrev told-verdict : Lent

@@ -28,13 +28,13 @@ use Rattle.sets.proofs.Division.{start-rises, start-within, jobs-joined}
 use Rattle.sets.proofs.Conditions.{job-settled}
 use Rattle.sets.proofs.Entries.{job-told}
 use Rattle.search.specs.Search.{searched, isBreaking}
-use Rattle.verdict.specs.Answers.{notionOf, firstShown, firstRanked, verdictOf, rangeCheck}
-use Rattle.verdict.specs.Jobs.{nothing, found, broken, Ordered, Asked, Divided, JobAnswers, AllClean, CleanBelow, FirstFound}
+use Rattle.verdict_answers.specs.Answers.{notionOf, firstShown, firstRanked, verdictOf, rangeCheck}
+use Rattle.verdict_answers.specs.Jobs.{nothing, found, broken, Ordered, Asked, Divided, JobAnswers, AllClean, CleanBelow, FirstFound}
 use Rattle.search.proofs.Keeping.{each-place, keep-none, none-keep}
-use Rattle.verdict.proofs.Accepting.{shown-nil, ranked-nil, ranked-set}
-use Rattle.verdict.proofs.Conditions.{verdict-answered, range-answered}
+use Rattle.verdict_answers.proofs.Accepting.{shown-nil, ranked-nil, ranked-set}
+use Rattle.verdict_answers.proofs.Conditions.{verdict-answered, range-answered}
 use Rattle.search.proofs.Turns.{first-of-size}
-use Rattle.verdict.proofs.Watching.{of-size, each-size, each-searched}
+use Rattle.verdict_answers.proofs.Watching.{of-size, each-size, each-searched}
 
 -- ---- lists joined
 

@@ -10,10 +10,10 @@ use lib.ListN.{length, take, drop}
 use lib.Seq.{take-append-seam, drop-append-seam}
 use Rattle.basics.specs.Told.{Lent, values}
 use Rattle.revolving.specs.Order.{rankOf}
-use Rattle.verdict.specs.declared.VerdictAnswer.{VerdictAnswer}
-use Rattle.verdict.specs.declared.RangeAnswer.{RangeAnswer}
-use Rattle.verdict.specs.Answers.{verdictTold, rangeTold, written, firstShown, firstRanked}
-use Rattle.verdict.specs.Jobs.{found, broken}
+use Rattle.verdict_answers.specs.declared.VerdictAnswer.{VerdictAnswer}
+use Rattle.verdict_answers.specs.declared.RangeAnswer.{RangeAnswer}
+use Rattle.verdict_answers.specs.Answers.{verdictTold, rangeTold, written, firstShown, firstRanked}
+use Rattle.verdict_answers.specs.Jobs.{found, broken}
 
 module _ (buffer : List ℕ) where
   -- a written set and what lies past it, by the set's size
