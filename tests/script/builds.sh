@@ -29,7 +29,7 @@ no_build 'rt says nothing' '*could not be built*' ':'
 no_build 'rt says something after its verdict' '*could not be built*' 'echo "rt: ok, 3 crates proved"; echo more'
 no_build 'rt links nothing' '*target/bin/report is gone*' 'echo "rt: ok, 3 crates proved"'
 no_build 'rt links, and fails' '*could not be built*' \
-    'mkdir -p target/bin; cp "$room/program" target/bin/report; echo "rt: FAILED: report"'
+    'mkdir -p target/bin; cp "$room/programs/report" target/bin; echo "rt: FAILED: report"'
 try 'rt linked, and failed' 2 1 '' '*could not be built*' "$script" text
 
 # ---- builds with something missing, closed or full
@@ -48,10 +48,10 @@ fresh
 try 'no folder for what is built' 2 0 '' '*nothing can be written to the folder target' "$script" text
 fresh
 mkdir "$folder/target"
-ln -s /dev/full "$folder/target/build.log"
+ln -s /dev/full "$folder/target/report.log"
 try 'no room for the log' 2 1 '' '?*' "$script" text
 fresh
-mkdir -p "$folder/target/report.lock"
+mkdir -p "$folder/target/build.lock"
 try 'no file for the lock' 2 0 '' '?*' "$script" text
 fresh
 stand_in kit/flock 'echo "flock: no locks here" >&2; exit 71'
@@ -119,7 +119,7 @@ start_together() {
     : > "$room/go"
     wait
 }
-waits='report: another run builds the program; waiting for it'
+waits='report: another run builds in this folder; waiting for it'
 
 kit "$holds_on; $builds"
 for others in 2 '2 3'; do

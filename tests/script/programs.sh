@@ -64,7 +64,7 @@ expect 'standard error closed, with tools' 0 0 "$report" ''
 rm "$room/kit/find"
 
 # ---- the real program
-cp "$room/real" "$room/program"
+cp "$room/real/report" "$room/programs"
 fresh_and_built
 read_one='order 1 shares 2 masks 1 wires 9
 function product'
