@@ -6,7 +6,8 @@
  * A gadget computes on two operands, a and b, each a secret bit split into shares, and adds random bits, the masks.
  * A watcher reads a few of its wires. The functions below read a gadget's description into a table of its wires, check
  * its function, say whether it is NI and SNI at an order and show the first breaking set, tell which operand a set gives
- * away, number the sets of wires and divide the search over machines.
+ * away, number the sets of wires and divide the search over machines. One writes a description: the multiplication of
+ * Ishai, Sahai and Wagner.
  *
  * Breaking sets
  *
@@ -62,12 +63,12 @@ extern "C" {
 #endif
 
 /*
- * The version, for #if: major * 10000 + minor * 100 + patch, so 20000 is 2.0.0. A version that adds a function raises
+ * The version, for #if: major * 10000 + minor * 100 + patch, so 20100 is 2.1.0. A version that adds a function raises
  * the minor number, one that changes what a call with the same arguments answers raises the major one, and any other
  * the patch. Header and library belong together: the library tells no version of its own, so keep it with the header
  * that it came with.
  */
-#define CALDUVREN_VERSION 20000
+#define CALDUVREN_VERSION 20100
 
 #define CALDUVREN_MAX_TEXT_BYTES 4096
 #define CALDUVREN_RECORD_BYTES 24
@@ -79,6 +80,7 @@ extern "C" {
 #define CALDUVREN_MAX_SIZE 7
 #define CALDUVREN_MAX_JOBS 65536
 #define CALDUVREN_MAX_REPORT_BYTES 512
+#define CALDUVREN_MAX_ISW_ORDER 7
 #define CALDUVREN_STACK_BYTES 262144
 
 /* The notions. */
@@ -117,6 +119,8 @@ extern "C" {
 #define CALDUVREN_REFUSED_FUNCTION 20         /* function neither product nor sum nor copy */
 #define CALDUVREN_REFUSED_WIRE_NUMBERS 21     /* wire numbers not strictly rising, or one beyond the table */
 #define CALDUVREN_REFUSED_TEXT_PART 22        /* the wire's part lies outside the text */
+#define CALDUVREN_REFUSED_ISW_ORDER 23        /* order of the multiplication not 1 to 7 */
+#define CALDUVREN_REFUSED_ISW_ROOM 24         /* the multiplication's text is longer than the buffer lent for it */
 
 /* CALDUVREN_OK, or the number of a refusal. */
 typedef uint64_t calduvren_status;
@@ -329,6 +333,32 @@ calduvren_status calduvren_job(size_t wires, size_t size, uint64_t job, uint64_t
  */
 calduvren_status calduvren_report_text(const uint8_t *text, size_t text_length, uint8_t *buffer, size_t buffer_length,
                                        size_t *length);
+
+/*
+ * Writes a description text: the multiplication of Ishai, Sahai and Wagner at an order. That of order 2:
+ *   ORDER = 2
+ *   MASKS = [r0, r1, r2]
+ *   s00 r0 r1
+ *   s11 ((r0 s01) s10) r2
+ *   s22 ((r1 s02) s20) ((r2 s12) s21)
+ * Each pair of shares i < j has a mask, numbered from r0 in the order 0 1, 0 2 and so on, then 1 2. Line i begins with
+ * the product of shares i and i. Then comes for each other j, rising, the pair's mask where j is above i, and where it
+ * is below, the mask with the pair's two products, j i before i j. Items are parted by one space, and each line ends in
+ * byte 10.
+ *
+ * Every such text is read by calduvren_read_text, without refusal, into any table that is long enough: order + 1 shares,
+ * order * (order + 1) / 2 masks and, at the orders from 1 to 7, 9, 24, 46, 75, 111, 154 and 204 wires. On that table
+ * calduvren_function_check says yes to CALDUVREN_PRODUCT. That it is NI or SNI is not promised here: calduvren_verdict
+ * tells it.
+ *
+ * Written: length, and the text's bytes in the first `length` bytes of text. No byte 0 follows them. A buffer of
+ * CALDUVREN_MAX_TEXT_BYTES is always long enough.
+ *
+ * Refusals:
+ *   23  order not 1 to 7
+ *   24  text_length below the text's length
+ */
+calduvren_status calduvren_isw_text(size_t order, uint8_t *text, size_t text_length, size_t *length);
 
 #ifdef __cplusplus
 }

@@ -30,6 +30,7 @@ struct answer {
     uint16_t set[CALDUVREN_MAX_SIZE + 1];
     uint8_t table[CALDUVREN_MAX_TABLE_BYTES];
     uint8_t buffer[CALDUVREN_MAX_REPORT_BYTES];
+    uint8_t text[CALDUVREN_MAX_TEXT_BYTES];
 };
 #define UNTOUCHED 0xD1
 
@@ -76,7 +77,7 @@ static void compare(const char *call, calduvren_status status, calduvren_status 
 #define REFUSES(call, refusal) compare(#call, call, CALDUVREN_REFUSED_##refusal)
 
 /* The refusals in the order of the scope's numbers, from 1. So none is missing, and no two have the same. */
-#define REFUSALS 22u
+#define REFUSALS 24u
 #define NAMED(refusal) {#refusal, CALDUVREN_REFUSED_##refusal}
 static const struct {
     const char *name;
@@ -85,7 +86,7 @@ static const struct {
     NAMED(TEXT_TOO_LONG), NAMED(FIRST_LINE), NAMED(SECOND_LINE), NAMED(SYMBOL), NAMED(UNDECLARED_MASK),
     NAMED(PARENTHESIS), NAMED(BAR), NAMED(DEPTH), NAMED(LINES), NAMED(WIRES), NAMED(SHARES_OR_MASKS),
     NAMED(TABLE_LENGTH), NAMED(RECORD), NAMED(NOTION), NAMED(ORDER), NAMED(BUFFER), NAMED(SIZE), NAMED(RANKS),
-    NAMED(JOBS), NAMED(FUNCTION), NAMED(WIRE_NUMBERS), NAMED(TEXT_PART),
+    NAMED(JOBS), NAMED(FUNCTION), NAMED(WIRE_NUMBERS), NAMED(TEXT_PART), NAMED(ISW_ORDER), NAMED(ISW_ROOM),
 };
 
 static void refusal_names(void)
@@ -355,6 +356,7 @@ static void no_elements(void)
     ANSWERS(calduvren_set_from_rank(24, 0, 0, &no_wire, 0));
     wanted.rank = 0;
     ANSWERS(calduvren_rank_from_set(24, &no_wire, 0, &lent.rank));
+    REFUSES(calduvren_isw_text(1, &none, 0, &lent.length), ISW_ROOM);
 }
 
 #define REPORT(text, buffer_length) \
@@ -370,6 +372,43 @@ static void report_text(void)
     memcpy(wanted.buffer, "refused 2 at 0\n", 15);
     ANSWERS(REPORT("", 15));
     REFUSES(REPORT(text_a, strlen(report) - 1), BUFFER);
+}
+
+#define WRITE(order_asked, text_length) calduvren_isw_text(order_asked, lent.text, text_length, &lent.length)
+
+static void want_text(const char *text)
+{
+    wanted.length = strlen(text);
+    memcpy(wanted.text, text, strlen(text));
+}
+
+static void isw_text(void)
+{
+    static const char order_2[] =
+        "ORDER = 2\nMASKS = [r0, r1, r2]\ns00 r0 r1\ns11 ((r0 s01) s10) r2\ns22 ((r1 s02) s20) ((r2 s12) s21)\n";
+    static const char order_7[] =
+        "ORDER = 7\n"
+        "MASKS = [r0, r1, r2, r3, r4, r5, r6, r7, r8, r9, r10, r11, r12, r13, r14, r15, r16, r17, r18, r19, r20, r21, "
+        "r22, r23, r24, r25, r26, r27]\n"
+        "s00 r0 r1 r2 r3 r4 r5 r6\n"
+        "s11 ((r0 s01) s10) r7 r8 r9 r10 r11 r12\n"
+        "s22 ((r1 s02) s20) ((r7 s12) s21) r13 r14 r15 r16 r17\n"
+        "s33 ((r2 s03) s30) ((r8 s13) s31) ((r13 s23) s32) r18 r19 r20 r21\n"
+        "s44 ((r3 s04) s40) ((r9 s14) s41) ((r14 s24) s42) ((r18 s34) s43) r22 r23 r24\n"
+        "s55 ((r4 s05) s50) ((r10 s15) s51) ((r15 s25) s52) ((r19 s35) s53) ((r22 s45) s54) r25 r26\n"
+        "s66 ((r5 s06) s60) ((r11 s16) s61) ((r16 s26) s62) ((r20 s36) s63) ((r23 s46) s64) ((r25 s56) s65) r27\n"
+        "s77 ((r6 s07) s70) ((r12 s17) s71) ((r17 s27) s72) ((r21 s37) s73) ((r24 s47) s74) ((r26 s57) s75) "
+        "((r27 s67) s76)\n";
+    want_text(text_a);
+    ANSWERS(WRITE(1, CALDUVREN_MAX_TEXT_BYTES));
+    want_text(order_2);
+    ANSWERS(WRITE(2, strlen(order_2)));
+    want_text(order_7);
+    ANSWERS(WRITE(CALDUVREN_MAX_ISW_ORDER, CALDUVREN_MAX_TEXT_BYTES));
+    REFUSES(WRITE(0, CALDUVREN_MAX_TEXT_BYTES), ISW_ORDER);
+    REFUSES(WRITE(CALDUVREN_MAX_ISW_ORDER + 1, CALDUVREN_MAX_TEXT_BYTES), ISW_ORDER);
+    REFUSES(WRITE(2, strlen(order_2) - 1), ISW_ROOM);
+    REFUSES(WRITE(CALDUVREN_MAX_ISW_ORDER + 1, 0), ISW_ORDER);
 }
 
 int main(void)
@@ -390,6 +429,7 @@ int main(void)
     job();
     no_elements();
     report_text();
+    isw_text();
     if (differences == 0)
         printf("header: %u names of refusals and %u calls agree\n", REFUSALS, calls);
     else

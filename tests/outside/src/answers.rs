@@ -1,6 +1,6 @@
 //! The entries and their answers: all that the scope gives each of them, and all of it has to be reached in a run.
 
-/// The eleven entries, in the header's order.
+/// The twelve entries, in the header's order.
 #[derive(Clone, Copy, PartialEq, Eq, PartialOrd, Ord, Debug)]
 pub enum Entry {
     ReadText,
@@ -14,6 +14,7 @@ pub enum Entry {
     RankFromSet,
     Job,
     ReportText,
+    IswText,
 }
 
 /// A status, and a word where one status has several answers or causes.
@@ -21,7 +22,7 @@ pub type Answer = (u64, &'static str);
 
 /// The entries with their names and every answer that has to be reached, which is every one that the scope gives them.
 /// The refusals stand in the order in which they are tested; the header has to list them so too.
-pub const REQUIRED: [(Entry, &str, &[Answer]); 11] = [
+pub const REQUIRED: [(Entry, &str, &[Answer]); 12] = [
     (
         Entry::ReadText,
         "read_text",
@@ -125,4 +126,5 @@ pub const REQUIRED: [(Entry, &str, &[Answer]); 11] = [
         "report_text",
         &[(0, "of a gadget"), (0, "of a refusal"), (16, "")],
     ),
+    (Entry::IswText, "isw_text", &[(0, "written"), (23, ""), (24, "")]),
 ];

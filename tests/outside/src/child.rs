@@ -1,5 +1,6 @@
 //! A program as a child process: what it is given, and what came of it. Every wait has a limit in time.
 
+use std::ffi::OsString;
 use std::fs::File;
 use std::io::{Read, Seek, Write};
 use std::os::unix::process::CommandExt;
@@ -61,6 +62,7 @@ pub struct Call {
     pub error: Error,
     /// What is odd about the system.
     pub odd: Option<&'static str>,
+    pub arguments: Vec<OsString>,
 }
 
 pub struct Outcome {
@@ -74,13 +76,14 @@ pub struct Outcome {
 }
 
 impl Call {
-    /// With pipes for all that is written and nothing odd.
+    /// With pipes for all that is written, nothing odd and no arguments.
     pub fn on(input: Input) -> Call {
         Call {
             input,
             output: Output::Pipe,
             error: Error::Pipe,
             odd: None,
+            arguments: Vec::new(),
         }
     }
 
@@ -120,8 +123,9 @@ impl Call {
         let redirections = self.redirections();
         let mut command = match redirections.is_empty() {
             true => Command::new(program),
-            false => through_shell(&format!("exec \"$0\"{redirections}"), program),
+            false => through_shell(&format!("exec \"$0\" \"$@\"{redirections}"), program),
         };
+        command.args(&self.arguments);
         command.stdin(match (&self.input, file) {
             (_, Some(file)) => Stdio::from(file.try_clone().expect("a file can be shared")),
             (Input::Closed, _) => Stdio::null(),

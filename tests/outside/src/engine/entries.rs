@@ -80,4 +80,5 @@ extern "C" {
         buffer_length: usize,
         length: *mut usize,
     ) -> u64;
+    pub fn calduvren_isw_text(order: usize, text: *mut u8, text_length: usize, length: *mut usize) -> u64;
 }

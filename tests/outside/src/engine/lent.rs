@@ -7,7 +7,7 @@ use std::sync::atomic::{AtomicU64, Ordering};
 const GUARD_BYTES: usize = 64;
 
 /// Every byte of the filling has its top bit set. No answer looks like it: a number is below 2^63, a wire number below
-/// 512, a report is in ASCII, and the last byte of a record (the high byte of a length) is at most 16.
+/// 512, a report and a text are in ASCII, and the last byte of a record (the high byte of a length) is at most 16.
 const FILLING_BITS: u64 = 0x8080_8080_8080_8080;
 
 /// The filling changes from call to call, so that a stray write of an equal byte is not hidden twice.

@@ -1,4 +1,4 @@
-//! The engine under test: the eleven functions of include/calduvren.h, each behind a safe wrapper that lends guarded
+//! The engine under test: the twelve functions of include/calduvren.h, each behind a safe wrapper that lends guarded
 //! memory and gives back what the call left there.
 
 mod entries;
@@ -150,4 +150,12 @@ pub fn report_text(text: &[u8], buffer_length: usize) -> Reply {
     let status =
         unsafe { entries::calduvren_report_text(text_at, text_length, buffer_at, buffer_length, length.at(base)) };
     lent.reply(status, &[length], Some(buffer))
+}
+
+pub fn isw_text(order: usize, text_length: usize) -> Reply {
+    let mut lent = Lent::new();
+    let (text, length) = (lent.bytes(text_length), lent.number());
+    let base = lent.base();
+    let status = unsafe { entries::calduvren_isw_text(order, text.at(base), text_length, length.at(base)) };
+    lent.reply(status, &[length], Some(text))
 }

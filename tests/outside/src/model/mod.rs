@@ -1,8 +1,9 @@
-//! The model: the scope written down a second time, as a program of its own. Here are the eleven entries, each with its
+//! The model: the scope written down a second time, as a program of its own. Here are the twelve entries, each with its
 //! refusals in the scope's order; the modules hold what they rest on.
 
 pub mod breaking;
 pub mod functions;
+pub mod isw;
 pub mod lines;
 pub mod notes;
 pub mod reading;
@@ -16,6 +17,7 @@ pub mod wires;
 use crate::reply::Reply;
 use breaking::{allowed, shares_of_a, shares_of_b, sum, Found, TooMany, NI, SCOPE, SNI};
 use functions::{COPY, PRODUCT, SUM};
+use isw::MAX_ISW_ORDER;
 use reading::Reading;
 use records::{length_is_wrong, parse, tested, to_bytes, MAX_WIRES, RECORD_BYTES};
 use sets::{MAX_JOBS, MAX_SIZE};
@@ -198,4 +200,19 @@ pub fn report_text(report: &str, buffer_length: usize) -> Reply {
         return Reply::refused(16);
     }
     Reply::answered(&[report.len() as u64], report.bytes().map(u16::from).collect())
+}
+
+pub fn isw_text(order: usize, text_length: usize) -> Reply {
+    if !(1..=MAX_ISW_ORDER).contains(&order) {
+        return Reply::refused(23);
+    }
+    written_to(&isw::RIGHT.text(order), text_length)
+}
+
+/// The reply where this text is written.
+pub fn written_to(text: &str, text_length: usize) -> Reply {
+    if text_length < text.len() {
+        return Reply::refused(24);
+    }
+    Reply::answered(&[text.len() as u64], text.bytes().map(u16::from).collect())
 }

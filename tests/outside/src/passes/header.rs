@@ -7,33 +7,31 @@ use super::stack::{REPORT_BYTES, STACK_BYTES};
 use crate::answers::REQUIRED;
 use crate::model::breaking::{NI, SNI};
 use crate::model::functions::{COPY, PRODUCT, SUM};
+use crate::model::isw::MAX_ISW_ORDER;
 use crate::model::reading::MAX_TEXT_BYTES;
 use crate::model::records::{MAX_MASKS, MAX_SHARES, MAX_TABLE_BYTES, MAX_WIRES, RECORD_BYTES};
 use crate::model::sets::{MAX_JOBS, MAX_SIZE};
 use crate::random::Random;
 use crate::tally::Tally;
 use std::collections::{BTreeMap, BTreeSet};
-use std::fs::read_to_string;
+use std::fs::{read_dir, read_to_string};
 
 pub const HEADER: &str = "include/calduvren.h";
-const CRATE_FILES: [&str; 3] = [
-    "crates/calduvren/src/numbering.rt",
-    "crates/calduvren/src/tables.rt",
-    "crates/calduvren/src/texts.rt",
-];
+/// Every file of this folder, so that no exported function is overlooked.
+const CRATE: &str = "crates/calduvren/src";
 /// The header's rule: a function more raises the version's minor number, another answer to the same call its major one.
 /// So these two change together.
-const FUNCTIONS: usize = 11;
-const VERSION: usize = 20_000;
+const FUNCTIONS: usize = 12;
+const VERSION: usize = 20_100;
 
 /// A function's arguments as C declares them.
 type Declarations = BTreeMap<String, Vec<String>>;
 
 const REFUSED: &str = "CALDUVREN_REFUSED_";
-pub const REFUSALS: u64 = 22;
+pub const REFUSALS: u64 = 24;
 
 /// In the header's order. The refusals have the scope's numbers.
-const CONSTANTS: [(&str, usize); 40] = [
+const CONSTANTS: [(&str, usize); 43] = [
     ("CALDUVREN_VERSION", VERSION),
     ("CALDUVREN_MAX_TEXT_BYTES", MAX_TEXT_BYTES),
     ("CALDUVREN_RECORD_BYTES", RECORD_BYTES),
@@ -45,6 +43,7 @@ const CONSTANTS: [(&str, usize); 40] = [
     ("CALDUVREN_MAX_SIZE", MAX_SIZE),
     ("CALDUVREN_MAX_JOBS", MAX_JOBS as usize),
     ("CALDUVREN_MAX_REPORT_BYTES", REPORT_BYTES),
+    ("CALDUVREN_MAX_ISW_ORDER", MAX_ISW_ORDER),
     ("CALDUVREN_STACK_BYTES", STACK_BYTES),
     ("CALDUVREN_NI", NI),
     ("CALDUVREN_SNI", SNI),
@@ -74,12 +73,14 @@ const CONSTANTS: [(&str, usize); 40] = [
     ("CALDUVREN_REFUSED_FUNCTION", 20),
     ("CALDUVREN_REFUSED_WIRE_NUMBERS", 21),
     ("CALDUVREN_REFUSED_TEXT_PART", 22),
+    ("CALDUVREN_REFUSED_ISW_ORDER", 23),
+    ("CALDUVREN_REFUSED_ISW_ROOM", 24),
 ];
 
 pub fn run(_: &mut Random, tally: &mut Tally) {
     let header = without_comments(&read(HEADER));
     let in_header = declared(&header, "calduvren_status ", |argument| vec![spaced(argument)]);
-    let sources: String = CRATE_FILES.map(read).concat();
+    let sources = read_all(CRATE);
     let in_crate = declared(&sources, "pub extern \"C\" fn ", in_c);
     if in_header != in_crate || in_crate.len() != FUNCTIONS {
         tally.differs(|| format!("the header declares {in_header:#?}, and the crate exports {in_crate:#?}"));
@@ -102,6 +103,12 @@ pub fn run(_: &mut Random, tally: &mut Tally) {
 
 pub fn read(path: &str) -> String {
     read_to_string(path).unwrap_or_else(|why| panic!("{path} can be read: {why}"))
+}
+
+fn read_all(folder: &str) -> String {
+    let files = read_dir(folder).unwrap_or_else(|why| panic!("{folder} can be read: {why}"));
+    let paths = files.map(|file| file.expect("a folder can be read to its end").path());
+    paths.map(|path| read(&path.to_string_lossy())).collect()
 }
 
 /// Rising. A number that has two names stands twice.

@@ -5,6 +5,8 @@ mod dependence;
 pub mod examples;
 mod guards;
 mod header;
+mod isw;
+mod isw_program;
 mod jobs;
 mod large;
 mod noted;
@@ -25,7 +27,7 @@ use crate::tally::Tally;
 
 type Pass = fn(&mut Random, &mut Tally);
 
-const PASSES: [Pass; 16] = [
+const PASSES: [Pass; 18] = [
     guards::run,
     examples::run,
     sets::run,
@@ -42,6 +44,8 @@ const PASSES: [Pass; 16] = [
     refusals::run,
     dependence::run,
     words::run,
+    isw::run,
+    isw_program::run,
 ];
 
 pub fn run_all(seed: u64, tally: &mut Tally) {

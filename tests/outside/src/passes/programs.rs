@@ -22,7 +22,7 @@ const PROGRAM: &str = "target/bin/report";
 /// So many children run at a time.
 const AT_A_TIME: usize = 2;
 /// A child that takes longer hangs. The longest verdicts here are a matter of seconds, on a slow machine too.
-const LIMIT: Duration = Duration::from_secs(60);
+pub const LIMIT: Duration = Duration::from_secs(60);
 /// A child whose verdicts would take too long is stopped after this, and must not have ended before. It has said by
 /// then that they will, on a slow machine too.
 const LIMIT_OF_LONG: Duration = Duration::from_secs(1);
@@ -233,7 +233,7 @@ fn judge(case: &Case, model: &Model, outcome: &Outcome) -> Result<(), String> {
     }
 }
 
-fn show_some(bytes: &[u8]) -> String {
+pub fn show_some(bytes: &[u8]) -> String {
     let some = &bytes[..bytes.len().min(MOST_SHOWN)];
     format!("\"{}\"", some.escape_ascii())
 }

@@ -7,6 +7,7 @@ use crate::engine;
 use crate::inputs::calls::TableCall;
 use crate::inputs::tables::{planted, Table};
 use crate::model;
+use crate::model::isw::MAX_ISW_ORDER;
 use crate::model::reading::{read, MAX_TEXT_BYTES};
 use crate::model::records::{to_bytes, MAX_SHARES, MAX_TABLE_BYTES, MAX_WIRES, RECORD_BYTES};
 use crate::model::report::report;
@@ -28,7 +29,7 @@ struct Call {
 }
 
 pub fn run(random: &mut Random, tally: &mut Tally) {
-    let mut calls = calls_on_sets();
+    let mut calls = calls_on_numbers();
     for order in [1, 7] {
         calls.extend(calls_on_text(&largest_text(order)));
     }
@@ -69,13 +70,14 @@ fn call(entry: Entry, word: &'static str, model: Reply, engine: impl Fn() -> Rep
     }
 }
 
-fn calls_on_sets() -> Vec<Call> {
+fn calls_on_numbers() -> Vec<Call> {
     let last = count(MAX_WIRES, MAX_SIZE) - 1;
     let set = from_rank(MAX_WIRES, MAX_SIZE, last);
     let (wires, size, word) = (MAX_WIRES, MAX_SIZE, "answered");
     let from_rank = model::set_from_rank(wires, size, last, size);
     let from_set = model::rank_from_set(wires, &set);
     let job = model::job(wires, size, MAX_JOBS - 1, MAX_JOBS);
+    let isw = model::isw_text(MAX_ISW_ORDER, MAX_TEXT_BYTES);
     vec![
         call(Entry::SetCount, word, model::set_count(wires, size), move || {
             engine::set_count(wires, size)
@@ -88,6 +90,9 @@ fn calls_on_sets() -> Vec<Call> {
         }),
         call(Entry::Job, word, job, move || {
             engine::job(wires, size, MAX_JOBS - 1, MAX_JOBS)
+        }),
+        call(Entry::IswText, "written", isw, || {
+            engine::isw_text(MAX_ISW_ORDER, MAX_TEXT_BYTES)
         }),
     ]
 }

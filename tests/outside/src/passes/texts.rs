@@ -78,7 +78,7 @@ fn beyond_all_limits(tally: &mut Tally) {
 }
 
 /// The text with tables that are long enough by far, exactly, by a byte, not by a byte, and of any small length.
-fn every_length(random: &mut Random, tally: &mut Tally, text: &[u8]) {
+pub fn every_length(random: &mut Random, tally: &mut Tally, text: &[u8]) {
     let Some(reading) = ask_read(tally, text, MAX_TABLE_BYTES) else {
         return;
     };
@@ -105,7 +105,7 @@ fn every_length(random: &mut Random, tally: &mut Tally, text: &[u8]) {
     }
 }
 
-fn ask_read(tally: &mut Tally, text: &[u8], table_length: usize) -> Option<Reading> {
+pub fn ask_read(tally: &mut Tally, text: &[u8], table_length: usize) -> Option<Reading> {
     let reading = read(text, table_length);
     let reply = engine::read_text(text, table_length);
     let word = reading

@@ -110,7 +110,7 @@ fn wrong_call(random: &mut Random, tally: &mut Tally, table: &Table) {
     ask_verdict(tally, &call, numbers);
 }
 
-fn ask_function(tally: &mut Tally, call: &TableCall, function: usize) {
+pub fn ask_function(tally: &mut Tally, call: &TableCall, function: usize) {
     let reply = engine::function_check(&call.table, call.shares, call.masks, function);
     let model = model::function_check(&call.table, call.shares, call.masks, function);
     let word = match (model.numbers[0], function) {
