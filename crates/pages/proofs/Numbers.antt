@@ -58,7 +58,7 @@ module _ (P : ℕ → List ℕ → Type 0) (low : (n : ℕ) → n < 10 → P n (
   unfolding decimal
   decimal-by n = digits-by (suc n) n (le-refl (suc n))
 
-decimal-below : (n k : ℕ) → n < 10 ^ suc k → length (decimal n) ≤ suc k
+pub decimal-below : (n k : ℕ) → n < 10 ^ suc k → length (decimal n) ≤ suc k
 decimal-below = decimal-by (λ n l. (k : ℕ) → n < 10 ^ suc k → length l ≤ suc k) (λ n h k p. omega arith) last
   where
     last : (n : ℕ) (l : List ℕ) → 10 ≤ n → ((k : ℕ) → n / 10 < 10 ^ suc k → length l ≤ suc k) → (k : ℕ) → n < 10 ^ suc k

@@ -17,7 +17,7 @@ pub fn write_text(page: &mut [u8], at: usize, text: &[u8]) -> usize
 }
 
 // One digit.
-fn write_digit(page: &mut [u8], at: usize, digit: usize) -> usize
+pub fn write_digit(page: &mut [u8], at: usize, digit: usize) -> usize
     requires { ⌜ (at < length (now page)) × (digit < 10) ⌝ }
     ensures { λ r. ⌜ Wrote (now (page .entry)) at (digitByte digit ∷ []) (now (page .exit)) r ⌝ }
 {
