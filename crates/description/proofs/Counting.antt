@@ -6,25 +6,24 @@
 --     line-count, lines-count     the wires of a line that uses more than one symbol, of such lines
 use Prim.Native.Nat.{ℕ, suc, _+_, _-_}
 use native.Mathlib.Omega.{arith}
-use mathlib.Core.Path.{_≡_, refl, sym, _∙_, ap, ap₂, subst}
-use mathlib.Core.Bool.{Bool, true, false, cond, not, _&&_, _||_, true≢false, false≢true, or-assoc, or-comm}
+use mathlib.Core.Path.{_≡_, refl, sym, _∙_, ap, ap₂}
+use mathlib.Core.Bool.{Bool, true, false, cond, not, _&&_, _||_, true≢false, or-assoc, or-comm}
 use mathlib.Core.List.{List, [], _∷_, _++_, map, append-nil}
 use borrow.Author.Tests.{not-true, eqb-true, ne-eqb}
 use lib.Dec.{eqb}
 use lib.ListN.{length, length-append}
 use Rattle.basics.specs.Folds.{fold, some, every, count, oneIf}
 use Rattle.basics.proofs.Tests.{and-left, and-right, or-right}
-use Rattle.basics.proofs.Folds.{fold-cong, fold-append, fold-both, count-all}
+use Rattle.basics.proofs.Folds.{fold-cong, fold-append, fold-both}
 use Rattle.wires.specs.declared.Symbol.{Symbol}
 use Rattle.description.specs.Symbols.{spelling}
 use Rattle.description.specs.Bytes.{same}
 use Rattle.description.specs.Listing.{symbolWire, outerWire}
 use Rattle.description.specs.Grammar.{Items, none, symbol, group, empty, uses, symbols, sameSymbol}
-use Rattle.description.specs.Grammar.{Event, used, addition, worked, further, eventWires, additionOf, lastOuter, outered, lineWires, linesWires}
+use Rattle.description.specs.Grammar.{Event, used, addition, worked, further, eventWires, lastOuter, outered, lineWires, linesWires}
 use Rattle.description.specs.declared.PlacedSymbol.{PlacedSymbol}
 use Rattle.description.specs.declared.Listed.{Listed}
 use Rattle.description.proofs.Places.{same-bytes}
-use Rattle.description.proofs.Spelling.{spelled-same}
 use Rattle.description.proofs.Events.{symbols-group, whole, adds, some-used}
 
 -- whether a symbol is one of a list

@@ -9,12 +9,11 @@ use mathlib.Core.List.{List, [], _∷_, _++_, map, append-assoc}
 use borrow.Author.Tests.{le-leb, eq-eqb}
 use lib.Dec.{eqb, leb, eqb·zero-suc, eqb·suc-suc}
 use Rattle.limits.specs.Limits.{maxMasks}
-use Rattle.basics.specs.Folds.{some, every, upTo}
+use Rattle.basics.specs.Folds.{every, upTo}
 use Rattle.basics.proofs.Folds.{fold-map, fold-cong, fold-unit, up-to-last, every-below, some-at}
 use Rattle.wires.specs.declared.Symbol.{Symbol}
 use Rattle.description.specs.Bytes.{space, opening, closing}
 use Rattle.description.specs.Symbols.{maxMask, spelling}
-use Rattle.description.specs.Header.{larger}
 use Rattle.description.specs.Grammar.{Items, none, symbol, group, empty, symbols, depth, member, once, maskCount}
 use Rattle.description.specs.Printing.{_then_, following, printed}
 use Rattle.description.proofs.Numbers.{larger-max}

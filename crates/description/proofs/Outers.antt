@@ -14,7 +14,7 @@ use borrow.Author.Tests.{not-true}
 use lib.Dec.{leb}
 use lib.ListN.{length}
 use Rattle.limits.specs.Limits.{maxShares}
-use Rattle.basics.specs.Folds.{fold, parity, some, every, keep}
+use Rattle.basics.specs.Folds.{parity, some, every}
 use Rattle.basics.proofs.Tests.{and-left, and-right, xor-false, false-xor, xor-assoc}
 use Rattle.basics.proofs.Folds.{fold-append, fold-hom, keep-append}
 use Rattle.wires.specs.declared.Symbol.{Symbol}
@@ -24,7 +24,6 @@ use Rattle.wires.specs.Function.{outers}
 use Rattle.wires.proofs.Units.{symbolTerms}
 use Rattle.wires.proofs.Value.{value-none, value-plus}
 use Rattle.records.specs.Layout.{termsOf}
-use Rattle.record_words.specs.Symbols.{symbolSum}
 use Rattle.record_words.proofs.Naming.{symbol-means}
 use Rattle.description.specs.Symbols.{maxMask}
 use Rattle.description.specs.Listing.{wireOf, symbolWire, madeOuter, outerWire}
@@ -33,7 +32,7 @@ use Rattle.description.specs.Grammar.{Event, used, addition, worked, fur
 use Rattle.description.specs.declared.PlacedSymbol.{PlacedSymbol}
 use Rattle.description.specs.declared.Listed.{Listed}
 use Rattle.description.proofs.Spelling.{known-small}
-use Rattle.description.proofs.Events.{symbols-group, whole, seenAfter, wires-append, some-used, single-worked}
+use Rattle.description.proofs.Events.{symbols-group, whole, wires-append, some-used}
 use Rattle.description.proofs.Sums.{sum-means}
 
 -- the outer ones of listed wires

@@ -13,8 +13,8 @@ use mathlib.Core.Bool.{Bool, true, false, cond, not, _&&_, true≢false}
 use mathlib.Core.List.{List, [], _∷_, _++_, append-assoc}
 use borrow.Author.Tests.{not-true}
 use lib.Dec.{leb}
-use lib.ListN.{length, length-append, length-drop, take, drop}
-use lib.Seq.{drop-drop, drop-append-seam, take-append-seam, drop-length}
+use lib.ListN.{length, length-append, length-drop, drop}
+use lib.Seq.{drop-drop, drop-append-seam, take-append-seam}
 use Rattle.limits.specs.Limits.{maxOrder}
 use Rattle.basics.specs.Folds.{fold, every}
 use Rattle.basics.proofs.Tests.{and-left, and-right, and-both}
@@ -23,12 +23,11 @@ use Rattle.description.specs.Bytes.{space, lineEnd, opening, closing, wo
 use Rattle.description.specs.Symbols.{maxMask, symbolLength, spelling, formed}
 use Rattle.description.specs.Header.{larger}
 use Rattle.description.specs.Run.{maxDepth, reading, read}
-use Rattle.description.specs.Grammar.{Items, none, symbol, group, Description, Bytes, Byte, empty, uses, symbols, depth, headerText, once, known}
+use Rattle.description.specs.Grammar.{Items, none, symbol, group, Description, Byte, empty, symbols, depth, headerText, once, known}
 use Rattle.description.specs.Grammar.{Spelled, end, spaced, a-symbol, a-group, Lines, last, line, Spells, Limits, wiresOf, maskCount}
 use Rattle.description.specs.Printing.{following, printed, printedLine, textOf, laid, laidLines, laidOut}
-use Rattle.description.specs.declared.PlacedSymbol.{PlacedSymbol}
 use Rattle.description.proofs.Spelling.{spelling-length, known-formed}
-use Rattle.description.proofs.Places.{bytes-rest, rest-bytes, byte-inside}
+use Rattle.description.proofs.Places.{rest-bytes, byte-inside}
 use Rattle.description.proofs.Events.{symbols-group, known-group, whole}
 use Rattle.description.proofs.Exactly.{spelled-read}
 

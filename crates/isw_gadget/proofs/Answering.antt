@@ -7,21 +7,19 @@ use Prim.Native.Nat.{ℕ, _+_, _≤_, _<_}
 use native.Mathlib.Omega.{arith}
 use mathlib.Core.Path.{_≡_, refl, sym, _∙_, ap, ap₂, subst}
 use mathlib.Core.Logic.{_⊎_, inl, inr}
-use mathlib.Core.Bool.{Bool, cond, _||_}
 use mathlib.Core.List.{List, [], _∷_, _++_}
-use lib.Dec.{ltb}
 use lib.ListN.{length, take, drop}
 use lib.Seq.{take-append-seam, drop-append-seam}
-use Rattle.basics.specs.Told.{Lent, values, refusal, turnedDown}
+use Rattle.basics.specs.Told.{Lent, values, turnedDown}
 use Rattle.basics.specs.Conditions.{SettlesLent, First, None}
-use Rattle.basics.proofs.Conditions.{Chain, own, test, settles-lent, less, one-of, values-refusal}
+use Rattle.basics.proofs.Conditions.{Chain, own, test, settles-lent, less, one-of}
 use Rattle.description.specs.Run.{maxText}
 use Rattle.isw_gadget.specs.Text.{iswText}
 use Rattle.isw_gadget.specs.Answers.{maxIswOrder, refusalNumber, iswTold, iswWritten, iswConditions}
 use Rattle.isw_gadget.specs.Reads.{ReadAsProduct, IswSays}
 use Rattle.isw_gadget.specs.declared.Refusal.{Refusal}
 use Rattle.isw_gadget.specs.declared.IswAnswer.{IswAnswer}
-use Rattle.isw_gadget.proofs.Reading.{Fits, written-fits, isw-reads}
+use Rattle.isw_gadget.proofs.Reading.{written-fits, isw-reads}
 
 pub isw-numbers : (refusalNumber Refusal.OrderOutOfRange ≡ 23) × (refusalNumber Refusal.TextDoesNotFit ≡ 24)
 isw-numbers = (refl, refl)

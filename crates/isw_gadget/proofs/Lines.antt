@@ -4,28 +4,27 @@
 --     good-lines, shallow-lines     each line has items, no group is empty, two deep at most
 --     known-lines                   its symbols are shares of the order and declared masks
 --     line-printed, isw-printed     its bytes are those of the text
-use Prim.Native.Nat.{ℕ, zero, suc, _+_, _≤_, _<_}
-use native.Mathlib.Nat.{le-refl}
+use Prim.Native.Nat.{ℕ, _+_, _≤_, _<_}
 use native.Mathlib.Omega.{arith}
-use mathlib.Core.Path.{_≡_, refl, sym, _∙_, ap, ap₂}
+use mathlib.Core.Path.{_≡_, refl, _∙_, ap, ap₂}
 use mathlib.Core.Bool.{Bool, true, false, cond, not, _&&_, and-assoc}
-use mathlib.Core.List.{List, [], _∷_, _++_, map, append-assoc, append-nil}
+use mathlib.Core.List.{List, [], _∷_, _++_, append-assoc, append-nil}
 use borrow.Author.Tests.{ltb-true, ltb-false, eqb-false, lt-ltb, le-ltb, le-leb, ne-eqb}
 use lib.Dec.{eqb, ltb, leb}
 use Rattle.basics.specs.Folds.{fold, every, upTo}
 use Rattle.basics.specs.Quoted.{bytes}
-use Rattle.basics.proofs.Tests.{and-left, and-right, and-both}
-use Rattle.basics.proofs.Folds.{fold-map, fold-cong, fold-hom, fold-append, fold-lists, fold-keeps, every-below}
+use Rattle.basics.proofs.Tests.{and-both}
+use Rattle.basics.proofs.Folds.{fold-map, fold-cong, fold-hom, fold-lists, fold-keeps, every-below}
 use Rattle.wires.specs.declared.Symbol.{Symbol}
 use Rattle.wires.specs.declared.Symbol.the-variants.{Product, Mask}
-use Rattle.description.specs.Symbols.{maskName, spelling}
+use Rattle.description.specs.Symbols.{spelling}
 use Rattle.description.specs.Run.{maxDepth}
-use Rattle.description.specs.Grammar.{Items, none, Description, empty, symbols, depth, known, member, headerText}
-use Rattle.description.specs.Printing.{_then_, following, printed, printedLine, textOf}
+use Rattle.description.specs.Grammar.{Items, none, empty, symbols, depth, known, headerText}
+use Rattle.description.specs.Printing.{_then_, following, printedLine, textOf}
 use Rattle.description.proofs.Events.{whole}
 use Rattle.description.proofs.Joining.{then-following, then-symbols, then-whole, then-shallow, names-member}
 use Rattle.isw_gadget.specs.Pairs.{pairs, pairNumber}
-use Rattle.isw_gadget.specs.Text.{maskOf, corrected, item, others, lineText, iswText}
+use Rattle.isw_gadget.specs.Text.{maskOf, corrected, item, lineText, iswText}
 use Rattle.isw_gadget.specs.Gadget.{above, below, part, line, isw}
 use Rattle.isw_gadget.proofs.Pairs.{pair-below}
 

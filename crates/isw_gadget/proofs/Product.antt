@@ -3,19 +3,18 @@
 --     share i j           what line i has for share j, as a value
 --     line-worth          the value of a line
 --     isw-product         the lines add up to the product of the operands
-use Prim.Native.Nat.{ℕ, _+_, _≤_, _<_}
+use Prim.Native.Nat.{ℕ, _+_, _<_}
 use native.Mathlib.Omega.{arith}
 use mathlib.Core.Path.{_≡_, refl, sym, _∙_, ap, ap₂}
 use mathlib.Core.Bool.{Bool, true, false, cond, _&&_, xor}
-use mathlib.Core.List.{[], _∷_, _++_}
 use borrow.Author.Tests.{ltb-true, ltb-false, eqb-false, lt-ltb, le-ltb, eq-eqb, ne-eqb}
 use lib.Dec.{eqb, ltb}
-use Rattle.basics.specs.Folds.{fold, parity, upTo}
+use Rattle.basics.specs.Folds.{parity, upTo}
 use Rattle.basics.proofs.Tests.{xor-false, false-xor, xor-assoc, xor-self}
 use Rattle.basics.proofs.Folds.{fold-map, fold-cong, fold-below, fold-lists}
 use Rattle.wires.specs.Wires.{Input}
 use Rattle.wires.specs.Function.{operand}
-use Rattle.wires.specs.declared.Symbol.the-variants.{Product, Mask}
+use Rattle.wires.specs.declared.Symbol.the-variants.{Mask}
 use Rattle.wires.proofs.Value.{parity-both}
 use Rattle.wires.proofs.Units.{value-of-product, value-of-mask}
 use Rattle.wires.proofs.Function.{product-of-sums}

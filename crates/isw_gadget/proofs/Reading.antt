@@ -4,38 +4,36 @@
 --     isw-wires          so many wires
 --     isw-value          the outer wires' values add up to the product
 --     isw-reads          it is read as the product
-use Prim.Native.Nat.{ℕ, suc, _+_, _*_, _≤_, _<_}
+use Prim.Native.Nat.{ℕ, _+_, _*_, _≤_}
 use native.Mathlib.Omega.{arith}
 use mathlib.Core.Path.{_≡_, refl, sym, _∙_, ap, ap₂, subst}
 use mathlib.Core.Logic.{⊎-elim}
-use mathlib.Core.Bool.{Bool, true, false, cond, not, _&&_, xor}
+use mathlib.Core.Bool.{Bool, true, false, not, _&&_, xor}
 use mathlib.Core.List.{List, [], _∷_, _++_, map}
 use borrow.Author.Tests.{leb-true}
 use lib.Dec.{eqb, leb}
-use lib.ListN.{length, take, drop}
+use lib.ListN.{length, take}
 use Rattle.limits.specs.Limits.{maxOrder, maxMasks, maxWires, recordBytes}
-use Rattle.basics.specs.Told.{Told, values, refusal}
-use Rattle.basics.specs.Folds.{fold, parity, every, count, oneIf, upTo}
+use Rattle.basics.specs.Told.{values}
+use Rattle.basics.specs.Folds.{parity, every, count, oneIf, upTo}
 use Rattle.basics.proofs.Tests.{and-left, and-right}
-use Rattle.basics.proofs.Folds.{fold-map, fold-cong, fold-unit, fold-below, every-at, up-to-length}
-use Rattle.wires.specs.Wires.{Wire, Input, value}
-use Rattle.wires.specs.Function.{outers, AddUpTo, computes}
+use Rattle.basics.proofs.Folds.{fold-map, fold-unit, every-at, up-to-length}
+use Rattle.wires.specs.Function.{AddUpTo}
 use Rattle.wires.specs.declared.Symbol.{Symbol}
 use Rattle.wires.proofs.Function.{computes-exactly}
 use Rattle.records.specs.Layout.{wires}
-use Rattle.table.specs.Answers.{tableCheck, functionCheck}
+use Rattle.table.specs.Answers.{functionCheck}
 use Rattle.table.proofs.Conditions.{function-chain, accepted-exactly, sound-none}
 use Rattle.description.specs.Run.{maxText, reading, read}
 use Rattle.description.specs.Listing.{wireOf}
-use Rattle.description.specs.Grammar.{Items, Description, Limits, Spells, empty, symbols, known, wiresOf, linesWires, maskCount, headerText}
-use Rattle.description.specs.Printing.{textOf, laidLines, laidOut}
-use Rattle.description.specs.declared.Listed.{Listed}
+use Rattle.description.specs.Grammar.{Description, Limits, Spells, empty, symbols, known, wiresOf, headerText}
+use Rattle.description.specs.Printing.{textOf, laidOut}
 use Rattle.description.proofs.Joining.{names-low, names-once, names-count}
 use Rattle.description.proofs.Printing.{Printable, printed-spells, printed-read, laid-limits, laid-symbols, laid-empty, laid-whole, laid-fold, laid-count}
 use Rattle.description.proofs.Outers.{symbolValue, lines-value}
 use Rattle.description.proofs.Counting.{distinct, allSymbols, single, lines-count}
 use Rattle.description.proofs.Events.{whole}
-use Rattle.reader.specs.Answers.{gives, ReadLent, readText, readTold}
+use Rattle.reader.specs.Answers.{gives, ReadLent, readText}
 use Rattle.reader.specs.Reads.{ReadsGrammar}
 use Rattle.reader.specs.declared.ReadAnswer.{ReadAnswer}
 use Rattle.reader.proofs.Telling.{large-enough, reads-grammar}

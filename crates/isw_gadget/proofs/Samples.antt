@@ -3,9 +3,9 @@
 --     masks-of-7                    at order 7 the masks of the first and of the last pair
 --     lengths, wire-counts          how long the seven texts are, and how many wires they have
 --     told                          what is told of orders and buffers
-use Prim.Native.Nat.{ℕ, _+_, _^_}
+use Prim.Native.Nat.{_+_, _^_}
 use mathlib.Core.Path.{_≡_, refl}
-use mathlib.Core.List.{List, [], _∷_, _++_, map}
+use mathlib.Core.List.{[], _∷_, _++_, map}
 use lib.ListN.{length, replicate}
 use Rattle.basics.specs.Told.{values, turnedDown}
 use Rattle.basics.specs.Folds.{upTo}

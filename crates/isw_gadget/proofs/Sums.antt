@@ -15,7 +15,7 @@ use mathlib.Core.List.{List, [], _∷_, _++_, map}
 use lib.Dec.{eqb}
 use lib.ListN.{length, length-append}
 use Rattle.basics.specs.Folds.{fold, parity, oneIf, upTo}
-use Rattle.basics.proofs.Tests.{xor-false, false-xor, xor-assoc, xor-self}
+use Rattle.basics.proofs.Tests.{false-xor, xor-assoc, xor-self}
 use Rattle.basics.proofs.Folds.{fold-cong, fold-hom, fold-first, fold-below, fold-unit, fold-both, fold-pick}
 use Rattle.wires.proofs.Value.{parity-both}
 

@@ -4,36 +4,22 @@
 --     distinct-count     these are the distinct ones
 --     several            each line uses more than one
 use Prim.Native.Nat.{ℕ, zero, suc, _+_, _*_, _≤_, _<_}
-use native.Mathlib.Nat.{zero-lt-suc, not-suc-le-zero}
+use native.Mathlib.Nat.{zero-lt-suc}
 use native.Mathlib.Omega.{arith}
-use mathlib.Core.Path.{_≡_, refl, sym, _∙_, ap, ap₂, subst}
+use mathlib.Core.Path.{_≡_, refl, sym, _∙_, ap, ap₂}
 use mathlib.Core.Bool.{Bool, true, false, cond, _&&_, _||_, or-assoc, and-assoc}
-use mathlib.Core.List.{List, [], _∷_, _++_, map}
+use mathlib.Core.List.{List, [], _++_, map}
 use borrow.Author.Tests.{ltb-true, ltb-false, eqb-true, lt-ltb, le-ltb, le-leb, eq-eqb, ne-eqb}
 use lib.Dec.{eqb, ltb, eqb·suc-suc, eqb·zero-suc, eqb·suc-zero}
 use lib.ListN.{length, length-append}
 use Rattle.limits.specs.Limits.{maxMasks}
-use Rattle.basics.specs.Folds.{fold, some, every, count, oneIf, upTo}
-use Rattle.basics.proofs.Tests.{and-left, and-right, and-both, or-left, or-right, bool-ext}
-use Rattle.basics.proofs.Folds.{
-  fold-map,
-  fold-cong,
-  fold-hom,
-  fold-append,
-  fold-lists,
-  fold-first,
-  fold-below,
-  fold-unit,
-  fold-both,
-  fold-pick,
-  up-to-length,
-  every-below,
-  some-at,
-}
+use Rattle.basics.specs.Folds.{fold, every, count, oneIf, upTo}
+use Rattle.basics.proofs.Tests.{and-both, or-left, or-right, bool-ext}
+use Rattle.basics.proofs.Folds.{fold-map, fold-cong, fold-append, fold-lists, fold-first, up-to-length, every-below, some-at}
 use Rattle.wires.specs.declared.Symbol.{Symbol}
 use Rattle.wires.specs.declared.Symbol.the-variants.{Product, Mask}
 use Rattle.description.specs.Symbols.{maxMask, shareFigure}
-use Rattle.description.specs.Grammar.{Items, none, symbols, sameSymbol}
+use Rattle.description.specs.Grammar.{none, symbols, sameSymbol}
 use Rattle.description.proofs.Spelling.{same-spelled, spelled-same}
 use Rattle.description.proofs.Counting.{amid, distinct, distinct-all, allSymbols, single}
 use Rattle.isw_gadget.specs.Pairs.{pairs, pairNumber}

@@ -3,7 +3,6 @@
 --     LineSays          "line i begins with the product of shares i and i, then for each other j, rising, the pair's mask if j > i, else ((r sji) sij)"
 use Prim.Native.Nat.{ℕ, zero, suc, _+_, _≤_, _<_}
 use mathlib.Core.Path.{_≡_}
-use mathlib.Core.List.{List, [], _∷_}
 use Rattle.wires.specs.declared.Symbol.the-variants.{Product, Mask}
 use Rattle.description.specs.Grammar.{Items, none, symbol, group}
 use Rattle.description.specs.Printing.{an, bracketed}

@@ -8,12 +8,12 @@
 use Prim.Native.Nat.{ℕ, zero, suc, _+_, _*_, _-_, _/_, _≤_, _<_}
 use native.Mathlib.Nat.{le-of-suc-le-suc, not-suc-le-zero, mul-le-mul}
 use native.Mathlib.Omega.{arith}
-use mathlib.Core.Path.{_≡_, refl, sym, _∙_, ap}
+use mathlib.Core.Path.{_≡_, _∙_, ap}
 use Rattle.limits.specs.Limits.{maxMasks}
 use Rattle.isw_gadget.specs.Pairs.{pairs, pairNumber}
 use Rattle.isw_gadget.specs.Answers.{maxIswOrder}
 use Rattle.isw_gadget.proofs.Pairs.{pairs-half, pair-below}
-use Rattle.isw_gadget.proofs.Reading.{Fits, written-fits}
+use Rattle.isw_gadget.proofs.Reading.{written-fits}
 
 pair-doubled : (d i j : ℕ) → i < j → j ≤ d → 2 * pairNumber d i j + 2 * i + 2 + i * i ≡ 2 * j + i * (2 * d + 1)
 pair-doubled d i zero h l = absurd (not-suc-le-zero h)

@@ -2,7 +2,7 @@
 -- Assumes nothing.
 use Prim.Native.Nat.{_+_, _*_, _-_, _≤_}
 use native.Mathlib.Omega.{arith}
-use mathlib.Core.Path.{_≡_, refl}
+use mathlib.Core.Path.{_≡_}
 use lib.ListN.{length}
 use Rattle.pages.specs.Page.{Wrote}
 use Rattle.isw_text.proofs.Writing.{piecesTo, pieces-begin, pieces-next, text-wrote}

@@ -1,0 +1,64 @@
+// The program isw: takes an order as its argument and prints the multiplication of Ishai, Sahai and Wagner at that order, a text for `report`.
+// Standard output gets the text and nothing else; for anything but an order that is written, standard error gets a line that says so.
+use description::MAX_TEXT_BYTES;
+use isw_gadget::IswAnswer;
+use libc::STDERR_FILENO;
+use libc::STDOUT_FILENO;
+
+mod numbers;
+
+// No number of more digits is an order.
+const MAX_DIGITS: usize = 32;
+
+fn main() {
+    // the program's own name is the first
+    if os::arg_count() != 2 {
+        say_usage();
+        return;
+    }
+    let mut word = [0u8; MAX_DIGITS];
+    let length = os::arg(1, &mut word);
+    // it is too long for a number
+    if os::errno() != 0 {
+        say_usage();
+        return;
+    }
+    answer(&word[0..length]);
+}
+
+// Which numbers are orders is the word of the entry alone.
+fn answer(word: &[u8]) {
+    if !numbers::is_number(word) {
+        say_usage();
+        return;
+    }
+    let mut text = [0u8; MAX_TEXT_BYTES];
+    let written = isw_text::isw_text(numbers::number_of(word), &mut text);
+    match written {
+        IswAnswer::Written { length } => print(&text, length),
+        // a buffer for the longest text is never too short
+        IswAnswer::Refused(why) => say_refused(why.number()),
+    }
+}
+
+fn print(text: &[u8], length: usize) {
+    if length <= text.len() && !io::write_all(STDOUT_FILENO, &text[0..length]) {
+        os::fail(b"isw: standard output");
+    }
+}
+
+fn say_refused(number: u64) {
+    io::write_all(STDERR_FILENO, b"isw: refused ");
+    io::print_decimal(STDERR_FILENO, number);
+    io::write_all(
+        STDERR_FILENO,
+        b": the order has to be a number from 1 to 7\n",
+    );
+}
+
+fn say_usage() {
+    io::write_all(
+        STDERR_FILENO,
+        b"isw: usage: isw ORDER    (a number from 1 to 7; the text goes to standard output)\n",
+    );
+}
