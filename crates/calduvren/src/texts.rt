@@ -1,10 +1,12 @@
-// Texts: reading, the text part of a wire, the report.
+// Texts: reading, the text part of a wire, the report, ISW written for an order.
 ghost use mathlib.Core.Path.{_≡_};
 ghost use mathlib.Core.List.{[], _∷_};
 ghost use Rattle.reader.specs.Answers.{readText, partCheck};
 ghost use Rattle.report_text.specs.Report.{reportText};
+ghost use Rattle.isw_gadget.specs.Answers.{iswWritten};
 ghost use Rattle.calduvren.specs.Calls.{got, answered, lentAnswered, lentRead};
-ghost use Rattle.calduvren.specs.Meaning.{Kept, ReadSays, PartSays, ReportSays};
+ghost use Rattle.calduvren.specs.Meaning.{Kept, ReadSays, PartSays, ReportSays, IswTextSays};
+use isw_gadget::IswAnswer;
 use reader::PartAnswer;
 use reader::ReadAnswer;
 use report_text::ReportAnswer;
@@ -83,6 +85,23 @@ pub extern "C" fn calduvren_report_text(text: &[u8], buffer: &mut [u8], length: 
     match answer {
         ReportAnswer::Refused(why) => why.number(),
         ReportAnswer::Written { length: size } => {
+            *length = size;
+            0
+        }
+    }
+}
+
+// Writes the multiplication of Ishai, Sahai and Wagner at an order to the start of a buffer.
+#[no_mangle]
+pub extern "C" fn calduvren_isw_text(order: usize, text: &mut [u8], length: &mut usize) -> u64
+    ensures { λ r. ⌜ got r (now (length .exit) ∷ []) (now (text .exit)) ≡ lentAnswered (iswWritten order (now (text .entry))) (now (length .entry) ∷ []) ⌝ }
+    ensures { λ r. ⌜ Kept r (now (length .exit) ∷ []) (now (length .entry) ∷ []) (now (text .exit)) (now (text .entry)) ⌝ }
+    ensures { λ r. ⌜ IswTextSays r (now (length .exit)) order (now (text .entry)) (now (text .exit)) ⌝ }
+{
+    let answer = isw_text::isw_text(order, text);
+    match answer {
+        IswAnswer::Refused(why) => why.number(),
+        IswAnswer::Written { length: size } => {
             *length = size;
             0
         }
