@@ -101,8 +101,8 @@ pub extern "C" fn calduvren_isw_text(order: usize, text: &mut [u8], length: &mut
     let answer = isw_text::isw_text(order, text);
     match answer {
         IswAnswer::Refused(why) => why.number(),
-        IswAnswer::Written { length: size } => {
-            *length = size;
+        IswAnswer::Written { length: written } => {
+            *length = written;
             0
         }
     }
