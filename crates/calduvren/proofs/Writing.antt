@@ -30,7 +30,7 @@ module _ (order : ℕ) (buffer held : List ℕ) where
       ap (λ (a : Lent). lentAnswered a (before ∷ [])) (ap (λ (a : IswAnswer). iswTold a held) (sym e) ∙ told),
       (
         kept-0 _ _ _ _,
-        record { written = λ zero. says .stands size e; reads = λ zero. says .reads size e; enough = λ no. absurd (no refl) },
+        record { written = λ zero. says .stands size e; spelled = λ zero. says .spelled size e; reads = λ zero. says .reads size e; enough = λ no. absurd (no refl) },
       ),
     )
 
@@ -40,6 +40,6 @@ module _ (order : ℕ) (buffer held : List ℕ) where
           lent-refused _ _ _ _ _ (ap (λ (a : IswAnswer). iswTold a held) (sym e) ∙ told) s,
           (
             λ no. (refl, says .kept why e),
-            record { written = λ zero. absurd (omega arith); reads = λ zero. absurd (omega arith); enough = λ no. says .enough why e },
+            record { written = λ zero. absurd (omega arith); spelled = λ zero. absurd (omega arith); reads = λ zero. absurd (omega arith); enough = λ no. says .enough why e },
           ),
         )

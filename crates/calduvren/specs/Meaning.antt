@@ -13,7 +13,7 @@
 --     ReadSays          a text is read exactly when it spells a description within the limits, into just that description's wires
 --     PartSays          the part lies within the text, and is the one that the engine returns
 --     ReportSays        the report stands at the buffer's start; it is never longer than 512 bytes, and a buffer of as many is never refused
---     IswTextSays       the text of the order stands at the buffer's start, is read and computes the product; a buffer of 4,096 bytes is never too short
+--     IswTextSays       the text of the order stands at the buffer's start, spells ISW, is read and computes the product; a buffer of 4,096 bytes is never too short
 use Prim.Native.Nat.{ℕ, suc, _+_, _*_, _≤_, _<_}
 use mathlib.Core.Path.{_≡_}
 use mathlib.Core.Logic.{_↔_, _⊎_}
@@ -41,6 +41,7 @@ use Rattle.report_text.specs.Report.{report, maxReport}
 use Rattle.description.specs.Run.{maxText}
 use Rattle.isw_gadget.specs.Text.{iswText}
 use Rattle.isw_gadget.specs.Answers.{maxIswOrder}
+use Rattle.isw_gadget.specs.Says.{IswSpelled}
 use Rattle.isw_gadget.specs.Reads.{ReadAsProduct}
 
 -- the lent numbers and the buffer, after the call and before it
@@ -120,5 +121,6 @@ pub record ReportSays (status size : ℕ) (text buffer held : List ℕ) : Type 0
 
 pub record IswTextSays (status size order : ℕ) (buffer held : List ℕ) : Type 0 where
   pub written : status ≡ 0 → (take size held ≡ iswText order) × (drop size held ≡ drop size buffer)
+  pub spelled : status ≡ 0 → IswSpelled order (take size held)
   pub reads : status ≡ 0 → ReadAsProduct order (take size held)
   pub enough : (status ≡ 0 → ⊥) → maxText ≤ length buffer → (order < 1) ⊎ (maxIswOrder < order)

@@ -15,11 +15,13 @@ use Rattle.basics.specs.Conditions.{SettlesLent, First, None}
 use Rattle.basics.proofs.Conditions.{Chain, own, test, settles-lent, less, one-of}
 use Rattle.description.specs.Run.{maxText}
 use Rattle.isw_gadget.specs.Text.{iswText}
+use Rattle.isw_gadget.specs.Says.{IswSpelled}
 use Rattle.isw_gadget.specs.Answers.{maxIswOrder, refusalNumber, iswTold, iswWritten, iswConditions}
 use Rattle.isw_gadget.specs.Reads.{ReadAsProduct, IswSays}
 use Rattle.isw_gadget.specs.declared.Refusal.{Refusal}
 use Rattle.isw_gadget.specs.declared.IswAnswer.{IswAnswer}
 use Rattle.isw_gadget.proofs.Reading.{written-fits, isw-reads}
+use Rattle.isw_gadget.proofs.Exactly.{isw-spelled}
 
 pub isw-numbers : (refusalNumber Refusal.OrderOutOfRange ≡ 23) × (refusalNumber Refusal.TextDoesNotFit ≡ 24)
 isw-numbers = (refl, refl)
@@ -89,6 +91,9 @@ module _ (order : ℕ) (buffer : List ℕ) where
     pub answer-says : IswSays answer order buffer held
     answer-says = record {
       stands = text-stands;
+      spelled = λ size f.
+          let o = order-written size f in
+          subst (IswSpelled order) (sym (text-stands size f .0)) (isw-spelled order (written-fits order (o .0) (o .1)));
       reads = λ size f.
           let o = order-written size f in
           subst (ReadAsProduct order) (sym (text-stands size f .0)) (isw-reads order (written-fits order (o .0) (o .1)));

@@ -6,6 +6,7 @@
 --     Product    the gadget computes the product
 --     Symbols    how many symbols it uses, and how many distinct ones
 --     Reading    the text of every order is read, and computes the product
+--     Exactly    the text is the one that the request's words describe, and no other
 --     Answering  which call gets which number, and what an answer says
 --     Samples    examples, proved by running the definitions
 pub mod Pairs
@@ -15,5 +16,6 @@ pub mod Saying
 pub mod Product
 pub mod Symbols
 pub mod Reading
+pub mod Exactly
 pub mod Answering
 pub mod Samples

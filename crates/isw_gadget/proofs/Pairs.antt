@@ -1,18 +1,20 @@
 -- Pairs are numbered 0, 1, .. without a gap or a repeat, in lexicographic order.
 --     pairs-half          twice their number is d (d + 1)
 --     pair-below          a pair's number is below how many there are
---     pair-in-row, pair-in-rows     numbers rise with the second share of a pair, and with the first
+--     pair-in-row, pair-in-rows, pair-rising     numbers rise with the second share of a pair, with the first, and so in lexicographic order
+--     pairs-compare       one pair comes before the other, or they are the same
 --     PairOf, pair-onto   every number below that is a pair's
 --     pair-once           and of one pair only
 --     pairs-numbered      so they are numbered in their order, without a gap or a repeat
+--     numbers-agree       and there is one way to number them so
 use Prim.Native.Nat.{ℕ, zero, suc, _+_, _*_, _-_, _≤_, _<_, suc-le-suc}
 use native.Mathlib.Nat.{le-of-suc-le-suc, not-suc-le-zero, zero-lt-suc}
 use native.Mathlib.Omega.{arith}
-use mathlib.Core.Path.{_≡_, refl, ap}
+use mathlib.Core.Path.{_≡_, refl, sym, ap, ap₂}
 use mathlib.Core.Bool.{Bool, true, false}
 use borrow.Author.Tests.{ltb-true, ltb-false}
 use lib.Dec.{ltb}
-use mathlib.Core.Logic.{inl, inr}
+use mathlib.Core.Logic.{_⊎_, inl, inr}
 use Rattle.isw_gadget.specs.Pairs.{pairs, pairNumber, Pair, Before, Numbers}
 
 pub pair-below : (d i j : ℕ) → i < j → j ≤ d → pairNumber d i j < pairs d
@@ -65,28 +67,40 @@ pair-onto (suc d) number h = go (ltb number (suc d)) refl (pair-onto d)
           numbered = omega (arith, same, high);
         }
 
-pub pair-once : (d i j k m : ℕ) → i < j → j ≤ d → k < m → m ≤ d → pairNumber d i j ≡ pairNumber d k m → (i ≡ k) × (j ≡ m)
-pair-once d i j k m h l g n e = by-first (ltb i k) refl (ltb k i) refl
+-- one pair comes before the other, or they are the same
+pairs-compare : (i j k m : ℕ) → Before i j k m ⊎ (((i ≡ k) × (j ≡ m)) ⊎ Before k m i j)
+pairs-compare i j k m = by-first (ltb i k) refl (ltb k i) refl
   where
-    by-second : i ≡ k → (below : Bool) → ltb j m ≡ below → (above : Bool) → ltb m j ≡ above → j ≡ m
-    by-second same true a above b =
-        let apart = pair-in-row d i j m h (ltb-true j m a) n in
-        let moved = ap (λ (x : ℕ). pairNumber d x m) same in
-        absurd (omega (arith, apart, e, moved))
-    by-second same false a true b =
-        let apart = pair-in-row d i m j (omega (arith, same, g)) (ltb-true m j b) l in
-        let moved = ap (λ (x : ℕ). pairNumber d x m) same in
-        absurd (omega (arith, apart, e, moved))
-    by-second same false a false b = let low = ltb-false j m a in let high = ltb-false m j b in omega (arith, low, high)
+    by-second : i ≡ k → (a : Bool) → ltb j m ≡ a → (b : Bool) → ltb m j ≡ b → Before i j k m ⊎ (((i ≡ k) × (j ≡ m)) ⊎ Before k m i j)
+    by-second e true f b g = inl (inr (e, ltb-true j m f))
+    by-second e false f true g = inr (inr (inr (sym e, ltb-true m j g)))
+    by-second e false f false g =
+        let low = ltb-false j m f in
+        let high = ltb-false m j g in
+        inr (inl (e, omega (arith, low, high)))
 
-    by-first : (below : Bool) → ltb i k ≡ below → (above : Bool) → ltb k i ≡ above → (i ≡ k) × (j ≡ m)
-    by-first true a above b = let apart = pair-in-rows d i j k m (ltb-true i k a) h l g n in absurd (omega (arith, apart, e))
-    by-first false a true b = let apart = pair-in-rows d k m i j (ltb-true k i b) g n h l in absurd (omega (arith, apart, e))
-    by-first false a false b =
-        let low = ltb-false i k a in
-        let high = ltb-false k i b in
-        let same : i ≡ k = omega (arith, low, high) in
-        (same, by-second same (ltb j m) refl (ltb m j) refl)
+    by-first : (a : Bool) → ltb i k ≡ a → (b : Bool) → ltb k i ≡ b → Before i j k m ⊎ (((i ≡ k) × (j ≡ m)) ⊎ Before k m i j)
+    by-first true f b g = inl (inl (ltb-true i k f))
+    by-first false f true g = inr (inr (inl (ltb-true k i g)))
+    by-first false f false g =
+        let low = ltb-false i k f in
+        let high = ltb-false k i g in
+        by-second (omega (arith, low, high)) (ltb j m) refl (ltb m j) refl
+
+pub pair-rising : (d i j k m : ℕ) → Pair d i j → Pair d k m → Before i j k m → pairNumber d i j < pairNumber d k m
+pair-rising d i j k m p q (inl h) = pair-in-rows d i j k m h (p .0) (p .1) (q .0) (q .1)
+pair-rising d i j k m p q (inr h) =
+    let row = pair-in-row d i j m (p .0) (h .1) (q .1) in
+    let moved = ap (λ (x : ℕ). pairNumber d x m) (h .0) in
+    omega (arith, row, moved)
+
+pub pair-once : (d i j k m : ℕ) → Pair d i j → Pair d k m → pairNumber d i j ≡ pairNumber d k m → (i ≡ k) × (j ≡ m)
+pair-once d i j k m p q e = go (pairs-compare i j k m)
+  where
+    go : Before i j k m ⊎ (((i ≡ k) × (j ≡ m)) ⊎ Before k m i j) → (i ≡ k) × (j ≡ m)
+    go (inl b) = let apart = pair-rising d i j k m p q b in absurd (omega (arith, apart, e))
+    go (inr (inl same)) = same
+    go (inr (inr b)) = let apart = pair-rising d k m i j q p b in absurd (omega (arith, apart, e))
 
 pub pairs-half : (d : ℕ) → 2 * pairs d ≡ d * (d + 1)
 pairs-half zero = refl
@@ -98,14 +112,38 @@ pairs-half (suc d) =
 pub pairs-numbered : (d : ℕ) → Numbers d (pairNumber d)
 pairs-numbered d = record {
   below = λ i j p. pair-below d i j (p .0) (p .1);
-  rising = before;
+  rising = pair-rising d;
   onto = λ n h. let p = pair-onto d n h in (p .first, p .second, (p .ordered, p .within), p .numbered);
-  once = λ i j k m p q. pair-once d i j k m (p .0) (p .1) (q .0) (q .1);
+  once = pair-once d;
 }
-  where
-    before : (i j k m : ℕ) → Pair d i j → Pair d k m → Before i j k m → pairNumber d i j < pairNumber d k m
-    before i j k m p q (inl h) = pair-in-rows d i j k m h (p .0) (p .1) (q .0) (q .1)
-    before i j k m p q (inr h) =
-        let row = pair-in-row d i j m (p .0) (h .1) (q .1) in
-        let moved = ap (λ (x : ℕ). pairNumber d x m) (h .0) in
-        omega (arith, row, moved)
+
+-- no number is higher: the pair with the number before it comes before, and so has a lower number in either way
+module _ (d : ℕ) (f g : ℕ → ℕ → ℕ) (p : Numbers d f) (q : Numbers d g) where
+  by-before : (i j v k m : ℕ) → f i j ≡ suc v → f k m ≡ v → Pair d i j → Pair d k m → (g k m < g i j → f k m ≤ g k m)
+      → Before k m i j ⊎ (((k ≡ i) × (m ≡ j)) ⊎ Before i j k m) → f i j ≤ g i j
+  by-before i j v k m e r h l ih (inl b) =
+      let lower = q .rising k m i j l h b in
+      let most = ih lower in
+      omega (arith, e, r, lower, most)
+  by-before i j v k m e r h l ih (inr (inl same)) =
+      let moved : f k m ≡ f i j = ap₂ f (same .0) (same .1) in absurd (omega (arith, e, r, moved))
+  by-before i j v k m e r h l ih (inr (inr b)) = let higher = p .rising i j k m h l b in absurd (omega (arith, e, r, higher))
+
+  by-number : (i j v : ℕ) → f i j ≡ v → Pair d i j → ((k m : ℕ) → Pair d k m → g k m < g i j → f k m ≤ g k m) → f i j ≤ g i j
+  by-number i j zero e h ih = omega (arith, e)
+  by-number i j (suc v) e h ih =
+      let few = p .below i j h in
+      let o = p .onto v (omega (arith, few, e)) in
+      let k = o .0 in
+      let m = o .1 in
+      by-before i j v k m e (o .3) h (o .2) (ih k m (o .2)) (pairs-compare k m i j)
+
+  not-higher : (n i j : ℕ) → Pair d i j → g i j < n → f i j ≤ g i j
+  not-higher zero i j h l = absurd (not-suc-le-zero l)
+  not-higher (suc n) i j h l = by-number i j (f i j) refl h (λ k m b r. not-higher n k m b (omega (arith, l, r)))
+
+pub numbers-agree : (d : ℕ) (f g : ℕ → ℕ → ℕ) → Numbers d f → Numbers d g → (i j : ℕ) → Pair d i j → f i j ≡ g i j
+numbers-agree d f g p q i j h =
+    let one = not-higher d f g p q (suc (g i j)) i j h (omega arith) in
+    let other = not-higher d g f q p (suc (f i j)) i j h (omega arith) in
+    omega (arith, one, other)

@@ -75,10 +75,10 @@ written-fits d l h =
     }
 
 module _ (d : ℕ) (f : Fits d) where
-  lines-many : length (isw d .lines) ≡ d + 1
+  pub lines-many : length (isw d .lines) ≡ d + 1
   lines-many = mapped-length (line d) (upTo (d + 1)) ∙ up-to-length (d + 1)
 
-  isw-limits : Limits (textOf (isw d)) (isw d)
+  pub isw-limits : Limits (textOf (isw d)) (isw d)
   isw-limits = record {
     short = subst (λ (l : List ℕ). length l ≤ maxText) (sym (isw-printed d)) (f .short);
     line-count = lines-many;
@@ -86,7 +86,7 @@ module _ (d : ℕ) (f : Fits d) where
     all-known = known-lines d;
   }
 
-  isw-printable : Printable (isw d)
+  pub isw-printable : Printable (isw d)
   isw-printable = record {
     order-digit = (f .low, f .high);
     name-numbers = names-low (pairs d) (f .few-masks);

@@ -16,6 +16,7 @@ use Rattle.description.specs.Run.{maxText}
 use Rattle.reader.specs.Answers.{gives, readText}
 use Rattle.isw_gadget.specs.Pairs.{pairs}
 use Rattle.isw_gadget.specs.Text.{iswText}
+use Rattle.isw_gadget.specs.Says.{IswSpelled}
 use Rattle.isw_gadget.specs.Answers.{maxIswOrder}
 use Rattle.isw_gadget.specs.declared.Refusal.{Refusal}
 use Rattle.isw_gadget.specs.declared.IswAnswer.{IswAnswer}
@@ -37,6 +38,7 @@ pub record ReadAsProduct (d : ℕ) (text : List ℕ) : Type 0 where
 pub record IswSays (answer : IswAnswer) (order : ℕ) (buffer held : List ℕ) : Type 0 where
   -- "the text's length is given; nothing past it is written"
   pub stands : (size : ℕ) → answer ≡ IswAnswer.Written size → (take size held ≡ iswText order) × (drop size held ≡ drop size buffer)
+  pub spelled : (size : ℕ) → answer ≡ IswAnswer.Written size → IswSpelled order (take size held)
   pub reads : (size : ℕ) → answer ≡ IswAnswer.Written size → ReadAsProduct order (take size held)
   pub kept : (why : Refusal) → answer ≡ IswAnswer.Refused why → held ≡ buffer
   -- a buffer for the longest text of all is never too short
