@@ -28,6 +28,7 @@
 --     Printing      what is printed is spelled
 --     Joining       items put together
 --     Outers        the outer wires of output lines, and their values
+--     Distinct      how many distinct symbols a list has
 --     Counting      how many wires a description has
 --     Samples       examples, proved by running the definitions
 pub mod Running
@@ -59,5 +60,6 @@ pub mod Turning
 pub mod Printing
 pub mod Joining
 pub mod Outers
+pub mod Distinct
 pub mod Counting
 pub mod Samples

@@ -4,7 +4,8 @@
 --     Lines      the lines of the gadget, and their bytes
 --     Saying     what each line says, share by share
 --     Product    the gadget computes the product
---     Symbols    how many symbols it uses, and how many distinct ones
+--     Symbols    how many symbols it uses
+--     Distinct   and how many distinct ones
 --     Reading    the text of every order is read, and computes the product
 --     Exactly    the text is the one that the request's words describe, and no other
 --     Answering  which call gets which number, and what an answer says
@@ -15,6 +16,7 @@ pub mod Lines
 pub mod Saying
 pub mod Product
 pub mod Symbols
+pub mod Distinct
 pub mod Reading
 pub mod Exactly
 pub mod Answering

@@ -31,7 +31,8 @@ use Rattle.description.specs.Printing.{textOf, laidOut}
 use Rattle.description.proofs.Joining.{names-low, names-once, names-count}
 use Rattle.description.proofs.Printing.{Printable, printed-spells, printed-read, laid-limits, laid-symbols, laid-empty, laid-whole, laid-fold, laid-count}
 use Rattle.description.proofs.Outers.{symbolValue, lines-value}
-use Rattle.description.proofs.Counting.{distinct, allSymbols, single, lines-count}
+use Rattle.description.proofs.Distinct.{distinct}
+use Rattle.description.proofs.Counting.{allSymbols, single, lines-count}
 use Rattle.description.proofs.Events.{whole}
 use Rattle.reader.specs.Answers.{gives, ReadLent, readText}
 use Rattle.reader.specs.Reads.{ReadsGrammar}
@@ -45,7 +46,8 @@ use Rattle.isw_gadget.specs.Reads.{iswWires, ReadAsProduct}
 use Rattle.isw_gadget.proofs.Sums.{mapped-length}
 use Rattle.isw_gadget.proofs.Lines.{good-lines, shallow-lines, known-lines, isw-printed}
 use Rattle.isw_gadget.proofs.Product.{isw-product}
-use Rattle.isw_gadget.proofs.Symbols.{uses-count, several, distinct-count}
+use Rattle.isw_gadget.proofs.Symbols.{uses-count, several}
+use Rattle.isw_gadget.proofs.Distinct.{distinct-count}
 
 -- ---- the limits
 
