@@ -1,7 +1,7 @@
 // The program isw: takes an order as its argument and prints the multiplication of Ishai, Sahai and Wagner at that order, a text for `report`.
 // Standard output gets the text and nothing else; for anything but an order that is written, standard error gets a line that says so.
 use description::MAX_TEXT_BYTES;
-use isw_gadget::IswAnswer;
+use isw_text::IswAnswer;
 use libc::STDERR_FILENO;
 use libc::STDOUT_FILENO;
 

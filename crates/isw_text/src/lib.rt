@@ -4,9 +4,9 @@ ghost use mathlib.Core.Path.{_≡_};
 ghost use Rattle.isw_gadget.specs.Answers.{iswTold, iswWritten};
 ghost use Rattle.isw_gadget.specs.Reads.{IswSays};
 use description::MAX_TEXT_BYTES;
-use isw_gadget::IswAnswer;
+pub use isw_gadget::IswAnswer;
 use isw_gadget::MAX_ISW_ORDER;
-use isw_gadget::Refusal;
+pub use isw_gadget::Refusal;
 
 mod lines;
 

@@ -20,10 +20,10 @@ use records::sums::sum_of_set;
 use revolving::is_rising;
 use table::TableAnswer;
 use table::table_check;
-use verdict_answers::DependenceAnswer;
-use verdict_answers::RangeAnswer;
-use verdict_answers::Refusal;
-use verdict_answers::VerdictAnswer;
+pub use verdict_answers::DependenceAnswer;
+pub use verdict_answers::RangeAnswer;
+pub use verdict_answers::Refusal;
+pub use verdict_answers::VerdictAnswer;
 use wires::Notion;
 
 // The notion that was asked for, on a table that passed its tests.
