@@ -1,6 +1,7 @@
 // The program isw: takes an order as its argument and prints the multiplication of Ishai, Sahai and Wagner at that order, a text for `report`.
 // Standard output gets the text and nothing else; for anything but an order that is written, standard error gets a line that says so.
 use description::MAX_TEXT_BYTES;
+use isw_gadget::MAX_ISW_ORDER;
 use isw_text::IswAnswer;
 use libc::STDERR_FILENO;
 use libc::STDOUT_FILENO;
@@ -48,17 +49,23 @@ fn print(text: &[u8], length: usize) {
 }
 
 fn say_refused(number: u64) {
-    io::write_all(STDERR_FILENO, b"isw: refused ");
+    say(b"isw: refused ");
     io::print_decimal(STDERR_FILENO, number);
-    io::write_all(
-        STDERR_FILENO,
-        b": the order has to be a number from 1 to 7\n",
-    );
+    say(b": the order has to be a number from 1 to ");
+    say_highest();
+    say(b"\n");
 }
 
 fn say_usage() {
-    io::write_all(
-        STDERR_FILENO,
-        b"isw: usage: isw ORDER    (a number from 1 to 7; the text goes to standard output)\n",
-    );
+    say(b"isw: usage: isw ORDER    (a number from 1 to ");
+    say_highest();
+    say(b"; the text goes to standard output)\n");
+}
+
+fn say_highest() {
+    io::print_decimal(STDERR_FILENO, MAX_ISW_ORDER as u64);
+}
+
+fn say(bytes: &[u8]) {
+    io::write_all(STDERR_FILENO, bytes);
 }

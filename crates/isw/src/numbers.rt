@@ -1,30 +1,44 @@
 // A number as a word of digits.
+ghost use mathlib.Core.Path.{_≡_};
+ghost use Rattle.basics.specs.Folds.{every};
+ghost use Rattle.description.specs.Bytes.{digit};
+ghost use Rattle.isw.specs.Digits.{isNumber, withDigit, numberOf};
+use tokens::bytes::is_digit;
 
-// What a number of four digits or more is taken for: no order has so many.
+// What a number of four digits or more is taken for, at least: no order has so many.
 const LARGE: usize = 1000;
 
 // Digits alone, and the first no 0 unless it stands alone.
-pub fn is_number(word: &[u8]) -> bool {
+pub fn is_number(word: &[u8]) -> bool
+    ensures { λ r. ⌜ r ≡ isNumber (now (word .entry)) ⌝ }
+{
     if word.len() == 0 {
         return false;
     }
-    if word[0] == 48 && 1 < word.len() {
+    if word.len() == 1 {
+        return is_digit(word[0]);
+    }
+    if word[0] == 48 {
         return false;
     }
     all_digits(word)
 }
 
-fn all_digits(word: &[u8]) -> bool {
+fn all_digits(word: &[u8]) -> bool
+    ensures { λ r. ⌜ r ≡ every digit (now (word .entry)) ⌝ }
+{
     for i in 0..word.len() {
-        if word[i] < 48 || 57 < word[i] {
+        if !is_digit(word[i]) {
             return false;
         }
     }
     true
 }
 
-// The number of a word of digits, or any number that is no order.
-pub fn number_of(word: &[u8]) -> usize {
+// The number of a word of digits; of a large one any number that is large.
+pub fn number_of(word: &[u8]) -> usize
+    ensures { λ r. ⌜ r ≡ numberOf (now (word .entry)) ⌝ }
+{
     let mut number = 0;
     for i in 0..word.len() {
         number = with_digit(number, word[i]);
@@ -32,12 +46,14 @@ pub fn number_of(word: &[u8]) -> usize {
     number
 }
 
-fn with_digit(number: usize, digit: u8) -> usize {
+fn with_digit(number: usize, byte: u8) -> usize
+    ensures { λ r. ⌜ r ≡ withDigit number byte ⌝ }
+{
     if LARGE <= number {
         return number;
     }
-    if digit < 48 {
-        return LARGE;
+    if byte < 48 {
+        return 10 * number;
     }
-    10 * number + (digit - 48) as usize
+    10 * number + (byte - 48) as usize
 }

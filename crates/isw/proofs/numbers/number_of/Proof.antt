@@ -1,20 +1,22 @@
--- `isw::numbers::number_of` meets its contract: no byte is read past the word.
+-- `isw::numbers::number_of` meets its contract: before each turn the number of the bytes up to there is known.
 -- Assumes nothing.
 use Prim.Native.Nat.{_-_, _≤_}
-use mathlib.Core.Path.{_≡_}
-use lib.ListN.{length}
+use mathlib.Core.Path.{_≡_, refl}
+use lib.ListN.{length, take}
+use Rattle.isw.specs.Digits.{numberOf}
+use Rattle.isw.proofs.Digits.{number-more, number-all}
 use borrow.Author.Needs.{needs}
 use Rattle.isw.proofs.numbers.number_of.Statement.{statement}
 use Rattle.isw.proofs.numbers.number_of.Tie as tie
 
 abbrev Inv-loop : tie.InvT-loop
-Inv-loop word number₀ i₀ i-end number i = (i-end ≡ length word) × (i ≤ i-end)
+Inv-loop word number₀ i₀ i-end number i = (i-end ≡ length word) × (i ≤ i-end) × (number ≡ numberOf (take i word))
 
 abbrev μ-loop : tie.MeasureT-loop
 μ-loop word number₀ i₀ i-end number i = i-end - i
 
 loop-holds : tie.Need-loop-holds Inv-loop μ-loop
-loop-holds c = search needs
+loop-holds c = (search needs, search needs, refl)
 
 shared-slice-read-with-digit : tie.Need-shared-slice-read-with-digit Inv-loop μ-loop
 shared-slice-read-with-digit c = search needs
@@ -29,10 +31,16 @@ loop-less : tie.Need-loop-less Inv-loop μ-loop
 loop-less c = search needs
 
 loop-again : tie.Need-loop-again Inv-loop μ-loop
-loop-again c = search needs
+loop-again c =
+    let a = c .before .before .before .before .before .args in
+    let l = c .before .before .before .loop in
+    (l .inv .0, search needs, number-more (a .word .now) (l .i) (l .number) _ (search needs) (l .inv .2) (c .with-digit .ensures))
 
 returns : tie.Need-returns Inv-loop μ-loop
-returns c = search needs
+returns c =
+    let a = c .before .before .before .args in
+    let l = c .before .loop in
+    number-all (a .word .now) (l .i) (l .number) (search needs) (l .inv .2)
 
 pub number-of-spec : {M : Type 1} → statement M
 number-of-spec =

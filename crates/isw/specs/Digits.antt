@@ -1,0 +1,28 @@
+-- A number as a word of digits.
+--     isNumber              digits alone, and the first no 0 unless it stands alone
+--     large                 what a number of four digits or more is taken for, at least: no order has so many
+--     withDigit, numberOf   the number of a word of digits, from its first one on, as far as it is not large
+use Prim.Native.Nat.{ℕ, _+_, _*_, _-_}
+use mathlib.Core.Bool.{Bool, false, cond, _&&_, not}
+use mathlib.Core.List.{List, [], _∷_}
+use lib.Dec.{eqb, leb}
+use Rattle.basics.specs.Folds.{every}
+use Rattle.description.specs.Bytes.{digit}
+
+abbrev pub isNumber : List ℕ → Bool
+isNumber [] = false
+isNumber (c ∷ []) = digit c
+isNumber (c ∷ d ∷ l) = not (eqb c 48) && every digit (c ∷ d ∷ l)
+
+abbrev pub large : ℕ
+large = 1000
+
+abbrev pub withDigit : ℕ → ℕ → ℕ
+withDigit number c = cond (leb large number) number (10 * number + (c - 48))
+
+abbrev pub numberFrom : ℕ → List ℕ → ℕ
+numberFrom number [] = number
+numberFrom number (c ∷ l) = numberFrom (withDigit number c) l
+
+abbrev pub numberOf : List ℕ → ℕ
+numberOf = numberFrom 0
