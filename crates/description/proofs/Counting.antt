@@ -1,5 +1,6 @@
 -- How many wires a description has: one for each addition, one for each distinct symbol, one more for each line that is a single symbol.
 --     events-count            events make a wire for each addition and each distinct symbol
+--     single, allSymbols      a line that is a single symbol; the symbols of lines
 --     line-count, lines-count     the wires of a line that uses more than one symbol, of such lines
 use Prim.Native.Nat.{ℕ, suc, _+_, _-_}
 use native.Mathlib.Omega.{arith}

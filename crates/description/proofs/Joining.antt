@@ -15,7 +15,8 @@ use Rattle.wires.specs.declared.Symbol.{Symbol}
 use Rattle.description.specs.Bytes.{space, opening, closing}
 use Rattle.description.specs.Symbols.{maxMask, spelling}
 use Rattle.description.specs.Grammar.{Items, none, symbol, group, empty, symbols, depth, member, once, maskCount}
-use Rattle.description.specs.Printing.{_then_, following, printed}
+use Rattle.description.specs.Printing.{following, printed}
+use Rattle.description.proofs.Laying.{_then_}
 use Rattle.description.proofs.Numbers.{larger-max}
 use Rattle.description.proofs.Events.{symbols-group, whole}
 

@@ -25,6 +25,7 @@
 --     Unique        a text spells one description
 --     Exactly       a text is read exactly when it spells a description within the limits
 --     Turning       a text that is turned down before its output lines are read
+--     Laying        items at their places in the text that is written of them
 --     Printing      what is printed is spelled
 --     Joining       items put together
 --     Outers        the outer wires of output lines, and their values
@@ -57,6 +58,7 @@ pub mod Found
 pub mod Unique
 pub mod Exactly
 pub mod Turning
+pub mod Laying
 pub mod Printing
 pub mod Joining
 pub mod Outers

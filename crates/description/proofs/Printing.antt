@@ -25,7 +25,8 @@ use Rattle.description.specs.Header.{larger}
 use Rattle.description.specs.Run.{maxDepth, reading, read}
 use Rattle.description.specs.Grammar.{Items, none, symbol, group, Description, Byte, empty, symbols, depth, headerText, once, known}
 use Rattle.description.specs.Grammar.{Spelled, end, spaced, a-symbol, a-group, Lines, last, line, Spells, Limits, wiresOf, maskCount}
-use Rattle.description.specs.Printing.{following, printed, printedLine, textOf, laid, laidLines, laidOut}
+use Rattle.description.specs.Printing.{following, printed, printedLine, textOf}
+use Rattle.description.proofs.Laying.{laid, laidLines, laidOut}
 use Rattle.description.proofs.Spelling.{spelling-length, known-formed}
 use Rattle.description.proofs.Places.{rest-bytes, byte-inside}
 use Rattle.description.proofs.Events.{symbols-group, known-group, whole}

@@ -1,6 +1,6 @@
 -- A number as a word of digits.
 --     isNumber              digits alone, and the first no 0 unless it stands alone
---     large                 what a number of four digits or more is taken for, at least: no order has so many
+--     large                 from here on a number is large: no order has four digits
 --     withDigit, numberOf   the number of a word of digits, from its first one on, as far as it is not large
 use Prim.Native.Nat.{ℕ, _+_, _*_, _-_}
 use mathlib.Core.Bool.{Bool, false, cond, _&&_, not}

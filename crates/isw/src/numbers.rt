@@ -5,7 +5,7 @@ ghost use Rattle.description.specs.Bytes.{digit};
 ghost use Rattle.isw.specs.Digits.{isNumber, withDigit, numberOf};
 use tokens::bytes::is_digit;
 
-// What a number of four digits or more is taken for, at least: no order has so many.
+// From here on a number is large: no order has four digits.
 const LARGE: usize = 1000;
 
 // Digits alone, and the first no 0 unless it stands alone.

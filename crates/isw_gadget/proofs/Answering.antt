@@ -1,7 +1,6 @@
 -- What is told of the text of an order: which call gets which number, and what an answer says.
 --     isw-settled                      a refusal is told exactly when its condition is the first that holds, a length exactly when none does
 --     isw-numbers                      the numbers of the refusals
---     told-text, told-refusal          what is told where the entry answers, and where it refuses
 --     answer-says                      whatever tells what the entry is to tell says what the request asks for
 use Prim.Native.Nat.{ℕ, _+_, _≤_, _<_}
 use native.Mathlib.Omega.{arith}

@@ -23,7 +23,7 @@ use Rattle.description.proofs.Spelling.{same-spelled, spelled-same}
 use Rattle.description.proofs.Distinct.{amid, distinct, distinct-all}
 use Rattle.description.proofs.Counting.{allSymbols}
 use Rattle.isw_gadget.specs.Pairs.{pairs, pairNumber}
-use Rattle.isw_gadget.specs.Gadget.{above, below, part, line, isw}
+use Rattle.isw_gadget.proofs.Gadget.{above, below, part, line, isw}
 use Rattle.isw_gadget.proofs.Pairs.{pair-below, pair-onto}
 use Rattle.isw_gadget.proofs.Sums.{sum, sum-constant, zero-plus, one-passes, nothing-passes, length-lists, mapped-length}
 use Rattle.isw_gadget.proofs.Lines.{by-share, above-is, below-is, line-symbols}

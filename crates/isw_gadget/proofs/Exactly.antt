@@ -16,11 +16,12 @@ use Rattle.basics.specs.Folds.{fold, upTo}
 use Rattle.wires.specs.declared.Symbol.the-variants.{Product, Mask}
 use Rattle.description.specs.Bytes.{lineEnd}
 use Rattle.description.specs.Grammar.{Items, none, Spells, headerText}
-use Rattle.description.specs.Printing.{an, bracketed, printedLine, laidOut}
+use Rattle.description.specs.Printing.{an, bracketed, printedLine}
+use Rattle.description.proofs.Laying.{laidOut}
 use Rattle.description.proofs.Printing.{printed-spells, laid-count}
 use Rattle.isw_gadget.specs.Pairs.{pairs, pairNumber, Pair}
 use Rattle.isw_gadget.specs.Text.{iswText}
-use Rattle.isw_gadget.specs.Gadget.{isw}
+use Rattle.isw_gadget.proofs.Gadget.{isw}
 use Rattle.isw_gadget.specs.Says.{unplaced, items, itemAt, LineSays, IswSpelled}
 use Rattle.isw_gadget.proofs.Pairs.{pairs-numbered, numbers-agree}
 use Rattle.isw_gadget.proofs.Lines.{isw-printed}
@@ -89,7 +90,7 @@ module _ (d : ℕ) (f : Fits d) where
     spaced = sym (isw-printed d) ∙ sym (text-laid (isw d));
     same-order = refl;
     same-names = refl;
-    line-count = laid-count at (isw d .lines) ∙ lines-many d f;
+    line-count = laid-count at (isw d .lines) ∙ lines-many d;
     number = pairNumber d;
     numbers = pairs-numbered d;
     lines-say = λ i h. subst (LineSays d (pairNumber d) i) (sym (line-at d at i h)) (line-says d i h);

@@ -1,4 +1,5 @@
 -- What is true of the multiplication of Ishai, Sahai and Wagner.
+--     Gadget     the gadget as a description, item by item
 --     Pairs      pairs are numbered without a gap or a repeat
 --     Sums       sums of numbers and bits
 --     Lines      the lines of the gadget, and their bytes
@@ -10,6 +11,7 @@
 --     Exactly    the text is the one that the request's words describe, and no other
 --     Answering  which call gets which number, and what an answer says
 --     Samples    examples, proved by running the definitions
+pub mod Gadget
 pub mod Pairs
 pub mod Sums
 pub mod Lines

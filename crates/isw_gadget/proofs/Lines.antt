@@ -20,12 +20,13 @@ use Rattle.wires.specs.declared.Symbol.the-variants.{Product, Mask}
 use Rattle.description.specs.Symbols.{spelling}
 use Rattle.description.specs.Run.{maxDepth}
 use Rattle.description.specs.Grammar.{Items, none, empty, symbols, depth, known, headerText}
-use Rattle.description.specs.Printing.{_then_, following, printedLine, textOf}
+use Rattle.description.specs.Printing.{following, printedLine, textOf}
+use Rattle.description.proofs.Laying.{_then_}
 use Rattle.description.proofs.Events.{whole}
 use Rattle.description.proofs.Joining.{then-following, then-symbols, then-whole, then-shallow, names-member}
 use Rattle.isw_gadget.specs.Pairs.{pairs, pairNumber}
 use Rattle.isw_gadget.specs.Text.{maskOf, corrected, item, lineText, iswText}
-use Rattle.isw_gadget.specs.Gadget.{above, below, part, line, isw}
+use Rattle.isw_gadget.proofs.Gadget.{above, below, part, line, isw}
 use Rattle.isw_gadget.proofs.Pairs.{pair-below}
 
 -- what holds of each line holds of all

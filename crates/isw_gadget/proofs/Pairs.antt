@@ -4,9 +4,8 @@
 --     pair-in-row, pair-in-rows, pair-rising     numbers rise with the second share of a pair, with the first, and so in lexicographic order
 --     pairs-compare       one pair comes before the other, or they are the same
 --     PairOf, pair-onto   every number below that is a pair's
---     pair-once           and of one pair only
---     pairs-numbered      so they are numbered in their order, without a gap or a repeat
---     numbers-agree       and there is one way to number them so
+--     pairs-numbered      so they are numbered in their order
+--     numbers-once, numbers-agree     no number is given twice, and there is one way to number them so
 use Prim.Native.Nat.{ℕ, zero, suc, _+_, _*_, _-_, _≤_, _<_, suc-le-suc}
 use native.Mathlib.Nat.{le-of-suc-le-suc, not-suc-le-zero, zero-lt-suc}
 use native.Mathlib.Omega.{arith}
@@ -94,14 +93,6 @@ pair-rising d i j k m p q (inr h) =
     let moved = ap (λ (x : ℕ). pairNumber d x m) (h .0) in
     omega (arith, row, moved)
 
-pub pair-once : (d i j k m : ℕ) → Pair d i j → Pair d k m → pairNumber d i j ≡ pairNumber d k m → (i ≡ k) × (j ≡ m)
-pair-once d i j k m p q e = go (pairs-compare i j k m)
-  where
-    go : Before i j k m ⊎ (((i ≡ k) × (j ≡ m)) ⊎ Before k m i j) → (i ≡ k) × (j ≡ m)
-    go (inl b) = let apart = pair-rising d i j k m p q b in absurd (omega (arith, apart, e))
-    go (inr (inl same)) = same
-    go (inr (inr b)) = let apart = pair-rising d k m i j q p b in absurd (omega (arith, apart, e))
-
 pub pairs-half : (d : ℕ) → 2 * pairs d ≡ d * (d + 1)
 pairs-half zero = refl
 pairs-half (suc d) =
@@ -114,8 +105,16 @@ pairs-numbered d = record {
   below = λ i j p. pair-below d i j (p .0) (p .1);
   rising = pair-rising d;
   onto = λ n h. let p = pair-onto d n h in (p .first, p .second, (p .ordered, p .within), p .numbered);
-  once = pair-once d;
 }
+
+-- numbers that rise are given once
+pub numbers-once : (d : ℕ) (f : ℕ → ℕ → ℕ) → Numbers d f → (i j k m : ℕ) → Pair d i j → Pair d k m → f i j ≡ f k m → (i ≡ k) × (j ≡ m)
+numbers-once d f n i j k m p q e = go (pairs-compare i j k m)
+  where
+    go : Before i j k m ⊎ (((i ≡ k) × (j ≡ m)) ⊎ Before k m i j) → (i ≡ k) × (j ≡ m)
+    go (inl b) = let apart = n .rising i j k m p q b in absurd (omega (arith, apart, e))
+    go (inr (inl same)) = same
+    go (inr (inr b)) = let apart = n .rising k m i j q p b in absurd (omega (arith, apart, e))
 
 -- no number is higher: the pair with the number before it comes before, and so has a lower number in either way
 module _ (d : ℕ) (f g : ℕ → ℕ → ℕ) (p : Numbers d f) (q : Numbers d g) where

@@ -21,7 +21,7 @@ use Rattle.wires.proofs.Function.{product-of-sums}
 use Rattle.description.specs.Grammar.{none, symbols}
 use Rattle.description.proofs.Outers.{symbolValue}
 use Rattle.isw_gadget.specs.Pairs.{pairs, pairNumber}
-use Rattle.isw_gadget.specs.Gadget.{above, below, part, line, isw}
+use Rattle.isw_gadget.proofs.Gadget.{above, below, part, line, isw}
 use Rattle.isw_gadget.proofs.Pairs.{pair-below}
 use Rattle.isw_gadget.proofs.Sums.{square-diagonal}
 use Rattle.isw_gadget.proofs.Lines.{line-symbols}

@@ -1,6 +1,7 @@
 -- The text of every order is read without refusal, and its table computes the product.
---     Fits               the order's text, masks and wires are within the limits of a text: for the orders that are written, by running the test
---     isw-limits         the text is within the limits
+--     Fits               the order's text, masks and wires are within the limits of a text
+--     written-fits       so are the orders that are written
+--     isw-limits, isw-printable     the text is within the limits, and the gadget can be written out
 --     isw-wires          so many wires
 --     isw-value          the outer wires' values add up to the product
 --     isw-reads          it is read as the product
@@ -27,7 +28,8 @@ use Rattle.table.proofs.Conditions.{function-chain, accepted-exactly, sound-non
 use Rattle.description.specs.Run.{maxText, reading, read}
 use Rattle.description.specs.Listing.{wireOf}
 use Rattle.description.specs.Grammar.{Description, Limits, Spells, empty, symbols, known, wiresOf, headerText}
-use Rattle.description.specs.Printing.{textOf, laidOut}
+use Rattle.description.specs.Printing.{textOf}
+use Rattle.description.proofs.Laying.{laidOut}
 use Rattle.description.proofs.Joining.{names-low, names-once, names-count}
 use Rattle.description.proofs.Printing.{Printable, printed-spells, printed-read, laid-limits, laid-symbols, laid-empty, laid-whole, laid-fold, laid-count}
 use Rattle.description.proofs.Outers.{symbolValue, lines-value}
@@ -40,7 +42,7 @@ use Rattle.reader.specs.declared.ReadAnswer.{ReadAnswer}
 use Rattle.reader.proofs.Telling.{large-enough, reads-grammar}
 use Rattle.isw_gadget.specs.Pairs.{pairs}
 use Rattle.isw_gadget.specs.Text.{iswText}
-use Rattle.isw_gadget.specs.Gadget.{line, isw}
+use Rattle.isw_gadget.proofs.Gadget.{line, isw}
 use Rattle.isw_gadget.specs.Answers.{maxIswOrder}
 use Rattle.isw_gadget.specs.Reads.{iswWires, ReadAsProduct}
 use Rattle.isw_gadget.proofs.Sums.{mapped-length}
@@ -76,14 +78,14 @@ written-fits d l h =
       few-wires = leb-true (iswWires d) maxWires (and-right (leb (pairs d) maxMasks) (leb (iswWires d) maxWires) masks);
     }
 
-module _ (d : ℕ) (f : Fits d) where
-  pub lines-many : length (isw d .lines) ≡ d + 1
-  lines-many = mapped-length (line d) (upTo (d + 1)) ∙ up-to-length (d + 1)
+pub lines-many : (d : ℕ) → length (isw d .lines) ≡ d + 1
+lines-many d = mapped-length (line d) (upTo (d + 1)) ∙ up-to-length (d + 1)
 
+module _ (d : ℕ) (f : Fits d) where
   pub isw-limits : Limits (textOf (isw d)) (isw d)
   isw-limits = record {
     short = subst (λ (l : List ℕ). length l ≤ maxText) (sym (isw-printed d)) (f .short);
-    line-count = lines-many;
+    line-count = lines-many d;
     shallow = shallow-lines d;
     all-known = known-lines d;
   }
@@ -122,7 +124,7 @@ module _ (d : ℕ) (f : Fits d) where
   pub isw-wires : length (wiresOf laidIsw) ≡ iswWires d
   isw-wires =
       let counted = lines-count (laidIsw .lines) [] 0 laid-good in
-      let lines = laid-count at (isw d .lines) ∙ lines-many in
+      let lines = laid-count at (isw d .lines) ∙ lines-many d in
       let used = ap length laid-all ∙ uses-count d in
       let named = ap (distinct []) laid-all ∙ distinct-count d (f .few-masks) in
       let none = no-single in

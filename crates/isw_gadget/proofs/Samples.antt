@@ -2,7 +2,7 @@
 --     order-1, order-2, order-3     the texts of the first orders; order 1 is text A of the scope
 --     masks-of-7                    at order 7 the masks of the first and of the last pair
 --     lengths, wire-counts          how long the seven texts are, and how many wires they have
---     told                          what is told of orders and buffers
+--     told-by-length, told-by-order      what is told of buffers and orders
 use Prim.Native.Nat.{_+_, _^_}
 use mathlib.Core.Path.{_≡_, refl}
 use mathlib.Core.List.{[], _∷_, _++_, map}

@@ -4,7 +4,8 @@
 --     items-before                           how many items stand before that of a share
 --     line-says                              each line says what request No. 2 has it say
 --     unplaced-laid, unplaced-line           items are the same without their places
---     following-laid, text-laid              and so are their bytes
+--     same-following, text-laid              and so are their bytes
+--     items-same                             items are what they have at each place
 --     line-at                                the lines by their number
 use Prim.Native.Nat.{ℕ, zero, suc, _+_, _≤_, _<_, suc-le-suc}
 use native.Mathlib.Nat.{not-suc-le-zero, zero-lt-suc}
@@ -21,10 +22,11 @@ use Rattle.wires.specs.declared.Symbol.the-variants.{Product}
 use Rattle.description.specs.Bytes.{space, lineEnd, opening, closing}
 use Rattle.description.specs.Symbols.{symbolLength, spelling}
 use Rattle.description.specs.Grammar.{Items, none, symbol, group, Description, headerText}
-use Rattle.description.specs.Printing.{an, bracketed, _then_, following, printedLine, textOf, laid, laidLines, laidOut}
+use Rattle.description.specs.Printing.{an, bracketed, following, printedLine, textOf}
+use Rattle.description.proofs.Laying.{_then_, laid, laidLines, laidOut}
 use Rattle.description.proofs.Printing.{laid-fold}
 use Rattle.isw_gadget.specs.Pairs.{pairNumber}
-use Rattle.isw_gadget.specs.Gadget.{above, below, part, line, isw}
+use Rattle.isw_gadget.proofs.Gadget.{above, below, part, line, isw}
 use Rattle.isw_gadget.specs.Says.{unplaced, items, itemAt, LineSays}
 use Rattle.isw_gadget.proofs.Sums.{sum, sum-constant, sum-both, nothing-passes, one-passes}
 use Rattle.isw_gadget.proofs.Lines.{above-is, below-is}

@@ -15,7 +15,7 @@ use Rattle.basics.proofs.Folds.{fold-map, fold-cong, fold-first}
 use Rattle.description.specs.Grammar.{none, symbols}
 use Rattle.description.proofs.Counting.{allSymbols, single}
 use Rattle.isw_gadget.specs.Pairs.{pairs}
-use Rattle.isw_gadget.specs.Gadget.{above, below, part, line, isw}
+use Rattle.isw_gadget.proofs.Gadget.{above, below, part, line, isw}
 use Rattle.isw_gadget.proofs.Sums.{sum, sum-constant, sum-least, sum-both, length-lists}
 use Rattle.isw_gadget.proofs.Lines.{line-symbols}
 

@@ -1,9 +1,9 @@
 -- The pairs of shares i < j, at most d, in lexicographic order: (0, 1), (0, 2), .. (0, d), (1, 2), .. (d - 1, d).
 --     pairs d             how many there are, d (d + 1) / 2
---     pairNumber d i j    the place of a pair among them, from 0 on; 0 where i < j ≤ d is not so
+--     pairNumber d i j    the place of a pair among them, from 0 on; of no meaning where i < j ≤ d is not so
 --     Pair                i < j ≤ d
 --     Before              a pair comes before another
---     Numbers             pairs are numbered 0, 1, .. in their order, without a gap or a repeat
+--     Numbers             pairs are numbered 0, 1, .. in their order, without a gap; as numbers rise, none is given twice
 use Prim.Native.Nat.{ℕ, zero, suc, _+_, _≤_, _<_}
 use mathlib.Core.Path.{_≡_}
 use mathlib.Core.Logic.{_⊎_}
@@ -30,4 +30,3 @@ pub record Numbers (d : ℕ) (number : ℕ → ℕ → ℕ) : Type 0 where
   pub below : (i j : ℕ) → Pair d i j → number i j < pairs d
   pub rising : (i j k m : ℕ) → Pair d i j → Pair d k m → Before i j k m → number i j < number k m
   pub onto : (n : ℕ) → n < pairs d → (i : ℕ) × (j : ℕ) × Pair d i j × (number i j ≡ n)
-  pub once : (i j k m : ℕ) → Pair d i j → Pair d k m → number i j ≡ number k m → (i ≡ k) × (j ≡ m)

@@ -1,4 +1,5 @@
 -- The bytes of a part, of a line, of the header lines and of the text, as they are written one run after the other.
+--     lower                                   a share that is neither a line's own nor above it
 --     decimal-two, mask-decimal               a number below 100 has at most two digits; a mask's name is its letter and its number
 --     pieces-more                             one piece more of a list of pieces
 --     product-wrote                           a product after some bytes

@@ -25,7 +25,6 @@ const HUGE: [usize; 4] = [1 << 32, (1 << 32) + 1, 1 << 63, usize::MAX];
 const MORE: usize = 64;
 /// The texts of this folder are named by their orders.
 const GADGETS: &str = "gadgets";
-const MOST_GADGETS: usize = 4;
 /// Up to this order all sets of a text are few enough. Of texts of a higher order those of up to two wires are.
 const MOST_SEARCHED: usize = 4;
 const SEARCHED_ABOVE: usize = 2;
@@ -43,8 +42,8 @@ pub fn run(random: &mut Random, tally: &mut Tally) {
         verdicts += table_is_right(tally, order, &text);
     }
     tally.say(format!(
-        "isw_text        {calls} calls at {} orders, {MAX_ISW_ORDER} texts read that are the product, {MOST_GADGETS} of \
-         them in {GADGETS}, {verdicts} verdicts that hold",
+        "isw_text        {calls} calls at {} orders, {MAX_ISW_ORDER} texts read that are the product, as in {GADGETS}, \
+          {verdicts} verdicts that hold",
         HIGHEST + 1 + HUGE.len()
     ));
 }
@@ -77,12 +76,10 @@ fn is_known(tally: &mut Tally, order: usize, text: &[u8]) {
     if order == 1 && text != A.as_bytes() {
         tally.differs(|| format!("IswText: order 1 is not text A, {}", show_text(text)));
     }
-    if order <= MOST_GADGETS {
-        let path = format!("{GADGETS}/isw-{order}.txt");
-        let file = std::fs::read(&path).unwrap_or_else(|why| panic!("{path} can be read: {why}"));
-        if file != text {
-            tally.differs(|| format!("IswText: order {order} is not {path}, {}", show_text(text)));
-        }
+    let path = format!("{GADGETS}/isw-{order}.txt");
+    let file = std::fs::read(&path).unwrap_or_else(|why| panic!("{path} can be read: {why}"));
+    if file != text {
+        tally.differs(|| format!("IswText: order {order} is not {path}, {}", show_text(text)));
     }
 }
 

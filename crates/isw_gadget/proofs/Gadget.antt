@@ -2,7 +2,7 @@
 --     above, below   what line i has for a share above i, the pair's mask, and for one below, the corrected products
 --     part d i j     what it has for share j: nothing for its own
 --     line d i       line i
---     isw d          the description; the places of its items are those of its text
+--     isw d          the description; its items have no places yet, and get those of its text by `laidOut`
 use Prim.Native.Nat.{ℕ, _+_}
 use mathlib.Core.Bool.{cond}
 use mathlib.Core.List.{map}
@@ -10,7 +10,8 @@ use lib.Dec.{eqb, ltb}
 use Rattle.basics.specs.Folds.{fold, upTo}
 use Rattle.wires.specs.declared.Symbol.the-variants.{Product, Mask}
 use Rattle.description.specs.Grammar.{Items, none, Description}
-use Rattle.description.specs.Printing.{an, bracketed, _then_}
+use Rattle.description.specs.Printing.{an, bracketed}
+use Rattle.description.proofs.Laying.{_then_}
 use Rattle.isw_gadget.specs.Pairs.{pairs, pairNumber}
 
 abbrev pub above : ℕ → ℕ → ℕ → Items
