@@ -356,7 +356,7 @@ calduvren_status calduvren_report_text(const uint8_t *text, size_t text_length, 
  *
  * Refusals:
  *   23  order not 1 to 7
- *   24  text_length below the text's length
+ *   24  text_length, the bytes that are lent, below the length of the order's text
  */
 calduvren_status calduvren_isw_text(size_t order, uint8_t *text, size_t text_length, size_t *length);
 

@@ -1,15 +1,25 @@
 -- The paths of the function that writes ISW: what each tells, and what its numbers mean, from what the entry promises of the answer.
 --     isw-gave, isw-refused
-use Prim.Native.Nat.{ℕ, _<_}
+--     isw-read, isw-computes, isw-once, isw-room     what a caller has of it: the text is read, computes the product, and is the one that the request describes
+use Prim.Native.Nat.{ℕ, _+_, _*_, _≤_, _<_}
 use native.Mathlib.Omega.{arith}
 use mathlib.Core.Path.{_≡_, refl, sym, _∙_, ap}
+use mathlib.Core.Logic.{⊎-elim}
 use mathlib.Core.List.{List, [], _∷_}
-use Rattle.basics.specs.Told.{Lent}
+use lib.ListN.{length, take, drop}
+use Rattle.limits.specs.Limits.{recordBytes}
+use Rattle.basics.specs.Told.{Told, Lent}
+use Rattle.table.specs.Answers.{functionCheck}
+use Rattle.description.specs.Run.{maxText}
+use Rattle.reader.specs.Answers.{ReadTold, readText}
+use Rattle.isw_gadget.specs.Pairs.{pairs}
+use Rattle.isw_gadget.specs.Says.{IswSpelled}
 use Rattle.isw_gadget.specs.declared.Refusal.{Refusal}
 use Rattle.isw_gadget.specs.declared.IswAnswer.{IswAnswer}
-use Rattle.isw_gadget.specs.Answers.{refusalNumber, iswTold, iswWritten}
-use Rattle.isw_gadget.specs.Reads.{IswSays}
-use Rattle.calduvren.specs.Calls.{got, lentAnswered}
+use Rattle.isw_gadget.specs.Answers.{maxIswOrder, refusalNumber, iswTold, iswWritten}
+use Rattle.isw_gadget.specs.Reads.{iswWires, IswSays}
+use Rattle.isw_gadget.proofs.Exactly.{spelled-once}
+use Rattle.calduvren.specs.Calls.{got, answered, lentAnswered, readAnswered, lentRead}
 use Rattle.calduvren.specs.Meaning.{Kept, IswTextSays}
 use Rattle.calduvren.proofs.Answering.{lent-refused, kept-0}
 
@@ -43,3 +53,28 @@ module _ (order : ℕ) (buffer held : List ℕ) where
             record { written = λ zero. absurd (omega arith); spelled = λ zero. absurd (omega arith); reads = λ zero. absurd (omega arith); enough = λ no. says .enough why e },
           ),
         )
+
+-- ---- what a caller in C has of it
+
+module _ (size order : ℕ) (buffer held : List ℕ) (says : IswTextSays 0 size order buffer held) where
+  -- the text that was written is read with status 0, whatever table of so many bytes is lent
+  pub isw-read : (table numbers : List ℕ) (offset : ℕ) → recordBytes * iswWires order ≤ length table
+      → lentRead (readText (take size held) table) numbers offset
+      ≡ got 0 (order ∷ (order + 1) ∷ pairs order ∷ iswWires order ∷ offset ∷ []) (readText (take size held) table .held)
+  isw-read table numbers offset room =
+      ap (λ (t : ReadTold). readAnswered t numbers offset (readText (take size held) table .held)) (says .reads refl .read table room)
+
+  -- and the function check then writes yes for the product
+  pub isw-computes : (table : List ℕ) (before : ℕ) → recordBytes * iswWires order ≤ length table
+      → answered (functionCheck (take (recordBytes * iswWires order) (readText (take size held) table .held)) (order + 1) (pairs order) 1) (before ∷ []) []
+      ≡ got 0 (1 ∷ []) []
+  isw-computes table before room = ap (λ (t : Told). answered t (before ∷ []) []) (says .reads refl .product table room)
+
+  -- it is the one text of which the request's words are true, at the buffer's start
+  pub isw-once : (text : List ℕ) → IswSpelled order text → (take size held ≡ text) × (drop size held ≡ drop size buffer)
+  isw-once text s = (spelled-once order (take size held) text (says .spelled refl) s, says .written refl .1)
+
+-- with room for the longest text of all, any other status than 0 is for the order
+pub isw-room : (status size order : ℕ) (buffer held : List ℕ) → IswTextSays status size order buffer held → (status ≡ 0 → ⊥) → maxText ≤ length buffer
+    → 1 ≤ order → maxIswOrder < order
+isw-room status size order buffer held says fails room low = ⊎-elim (λ h. absurd (omega (arith, h, low))) (λ h. h) (says .enough fails room)

@@ -2,25 +2,32 @@
 --     isw-settled                      a refusal is told exactly when its condition is the first that holds, a length exactly when none does
 --     isw-numbers                      the numbers of the refusals
 --     answer-says                      whatever tells what the entry is to tell says what the request asks for
-use Prim.Native.Nat.{ℕ, _+_, _≤_, _<_}
+--     says-read, says-product, says-once     what a caller has of it: reading and the function check tell this, and there is one such text
+use Prim.Native.Nat.{ℕ, _+_, _*_, _≤_, _<_}
 use native.Mathlib.Omega.{arith}
 use mathlib.Core.Path.{_≡_, refl, sym, _∙_, ap, ap₂, subst}
 use mathlib.Core.Logic.{_⊎_, inl, inr}
 use mathlib.Core.List.{List, [], _∷_, _++_}
-use lib.ListN.{length, take, drop}
+use lib.ListN.{length, length-append, take, drop}
 use lib.Seq.{take-append-seam, drop-append-seam}
+use Rattle.limits.specs.Limits.{recordBytes}
 use Rattle.basics.specs.Told.{Lent, values, turnedDown}
 use Rattle.basics.specs.Conditions.{SettlesLent, First, None}
 use Rattle.basics.proofs.Conditions.{Chain, own, test, settles-lent, less, one-of}
+use Rattle.wires.specs.Function.{AddUpTo}
+use Rattle.records.specs.Layout.{wires}
+use Rattle.table.specs.Answers.{functionCheck}
 use Rattle.description.specs.Run.{maxText}
+use Rattle.reader.specs.Answers.{gives, readText}
+use Rattle.isw_gadget.specs.Pairs.{pairs}
 use Rattle.isw_gadget.specs.Text.{iswText}
 use Rattle.isw_gadget.specs.Says.{IswSpelled}
 use Rattle.isw_gadget.specs.Answers.{maxIswOrder, refusalNumber, iswTold, iswWritten, iswConditions}
-use Rattle.isw_gadget.specs.Reads.{ReadAsProduct, IswSays}
+use Rattle.isw_gadget.specs.Reads.{iswWires, ReadAsProduct, IswSays}
 use Rattle.isw_gadget.specs.declared.Refusal.{Refusal}
 use Rattle.isw_gadget.specs.declared.IswAnswer.{IswAnswer}
 use Rattle.isw_gadget.proofs.Reading.{written-fits, isw-reads}
-use Rattle.isw_gadget.proofs.Exactly.{isw-spelled}
+use Rattle.isw_gadget.proofs.Exactly.{isw-spelled, spelled-once}
 
 pub isw-numbers : (refusalNumber Refusal.OrderOutOfRange ≡ 23) × (refusalNumber Refusal.TextDoesNotFit ≡ 24)
 isw-numbers = (refl, refl)
@@ -64,6 +71,13 @@ module _ (order : ℕ) (buffer : List ℕ) where
               ∙ ap (λ (k : ℕ). drop k buffer) (sym (s .0)),
         )
 
+    text-fits : (size : ℕ) → answer ≡ IswAnswer.Written size → size ≤ length held
+    text-fits size f =
+        let s = written-shown size f in
+        let long = s .0 in
+        let all = ap length (s .1) ∙ length-append (iswText order) (drop (length (iswText order)) buffer) in
+        omega (arith, long, all)
+
     order-written : (size : ℕ) → answer ≡ IswAnswer.Written size → (1 ≤ order) × (order ≤ maxIswOrder)
     order-written size f =
         let none = written-none size f in
@@ -90,6 +104,7 @@ module _ (order : ℕ) (buffer : List ℕ) where
     pub answer-says : IswSays answer order buffer held
     answer-says = record {
       stands = text-stands;
+      fits = text-fits;
       spelled = λ size f.
           let o = order-written size f in
           subst (IswSpelled order) (sym (text-stands size f .0)) (isw-spelled order (written-fits order (o .0) (o .1)));
@@ -101,3 +116,22 @@ module _ (order : ℕ) (buffer : List ℕ) where
           ∙ isw-settled .kept (refusalNumber why) (ap (λ (l : Lent). l .told) (sym e) ∙ ap (λ (a : IswAnswer). iswTold a held .told) f);
       enough = λ why f. room-enough (refusalNumber why) (refused-first why f);
     }
+
+-- ---- what a caller has of it, whatever the answer says it by
+
+module _ (answer : IswAnswer) (order : ℕ) (buffer held : List ℕ) (says : IswSays answer order buffer held) (size : ℕ) (e : answer ≡ IswAnswer.Written size)
+  where
+    -- reading tells this, whatever table of so many bytes is lent, and the function check then says yes to the product
+    pub says-read : (table : List ℕ) → recordBytes * iswWires order ≤ length table
+        → (readText (take size held) table .told ≡ gives order (order + 1) (pairs order) (iswWires order))
+        × (functionCheck (take (recordBytes * iswWires order) (readText (take size held) table .held)) (order + 1) (pairs order) 1 ≡ values (1 ∷ []))
+    says-read table room = (says .reads size e .read table room, says .reads size e .product table room)
+
+    -- the outer wires' values add up to the product of the operands
+    pub says-product : (table : List ℕ) → recordBytes * iswWires order ≤ length table
+        → AddUpTo 1 (order + 1) (pairs order) (wires (take (recordBytes * iswWires order) (readText (take size held) table .held)))
+    says-product table room = says .reads size e .adds-up table room
+
+    -- there is one text of which the request's words are true
+    pub says-once : (text : List ℕ) → IswSpelled order text → take size held ≡ text
+    says-once text s = spelled-once order (take size held) text (says .spelled size e) s

@@ -2,7 +2,7 @@
 --     says-same        a line that says this is this line
 --     lines-same       lines with the same items have the same bytes
 --     isw-spelled      the text spells what the request says
---     spelled-once     there is one text that does
+--     spelled-once, described-once     there is one text that does, and one description that it spells
 use Prim.Native.Nat.{ℕ, zero, suc, _+_, _≤_, _<_, suc-le-suc}
 use native.Mathlib.Nat.{zero-lt-suc}
 use native.Mathlib.Omega.{arith}
@@ -15,9 +15,10 @@ use lib.ListN.{length, drop, getD}
 use Rattle.basics.specs.Folds.{fold, upTo}
 use Rattle.wires.specs.declared.Symbol.the-variants.{Product, Mask}
 use Rattle.description.specs.Bytes.{lineEnd}
-use Rattle.description.specs.Grammar.{Items, none, Spells, headerText}
+use Rattle.description.specs.Grammar.{Items, none, Description, Spells, headerText}
 use Rattle.description.specs.Printing.{an, bracketed, printedLine}
 use Rattle.description.proofs.Laying.{laidOut}
+use Rattle.description.proofs.Unique as unique
 use Rattle.description.proofs.Printing.{printed-spells, laid-count}
 use Rattle.isw_gadget.specs.Pairs.{pairs, pairNumber, Pair}
 use Rattle.isw_gadget.specs.Text.{iswText}
@@ -78,6 +79,9 @@ spelled-once d t u s w =
     says-same d i (s .number) (w .number) (numbers-agree d (s .number) (w .number) (s .numbers) (w .numbers)) low _ _ (s .lines-say i low)
     (w .lines-say i low)))
     ∙ sym (w .spaced)
+
+pub described-once : (d : ℕ) (text : List ℕ) (s : IswSpelled d text) (e : Description) → Spells text e → s .description ≡ e
+described-once d text s e spells = unique.spelled-once text (s .description) e (s .spells) spells
 
 module _ (d : ℕ) (f : Fits d) where
   abbrev at : ℕ

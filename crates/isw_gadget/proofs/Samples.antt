@@ -10,14 +10,15 @@ use lib.ListN.{length, replicate}
 use Rattle.basics.specs.Told.{values, turnedDown}
 use Rattle.basics.specs.Folds.{upTo}
 use Rattle.basics.specs.Quoted.{bytes}
+use Rattle.description.proofs.Samples.{textA}
 use Rattle.isw_gadget.specs.Pairs.{pairs, pairNumber}
 use Rattle.isw_gadget.specs.Text.{iswText, lineText}
 use Rattle.isw_gadget.specs.Answers.{iswWritten}
 use Rattle.isw_gadget.specs.Reads.{iswWires}
 
-pub order-1 : iswText 1 ≡ bytes "ORDER = 1\nMASKS = [r0]\ns00 r0\ns11 ((r0 s01) s10)\n"
+pub order-1 : (iswText 1 ≡ textA) × (textA ≡ bytes "ORDER = 1\nMASKS = [r0]\ns00 r0\ns11 ((r0 s01) s10)\n")
 unfolding iswText upTo
-order-1 = refl
+order-1 = (refl, refl)
 
 pub order-2 : iswText 2 ≡ bytes "ORDER = 2\nMASKS = [r0, r1, r2]\ns00 r0 r1\ns11 ((r0 s01) s10) r2\ns22 ((r1 s02) s20) ((r2 s12) s21)\n"
 unfolding iswText upTo

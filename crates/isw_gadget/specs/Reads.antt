@@ -38,6 +38,7 @@ pub record ReadAsProduct (d : ℕ) (text : List ℕ) : Type 0 where
 pub record IswSays (answer : IswAnswer) (order : ℕ) (buffer held : List ℕ) : Type 0 where
   -- "the text's length is given; nothing past it is written"
   pub stands : (size : ℕ) → answer ≡ IswAnswer.Written size → (take size held ≡ iswText order) × (drop size held ≡ drop size buffer)
+  pub fits : (size : ℕ) → answer ≡ IswAnswer.Written size → size ≤ length held
   pub spelled : (size : ℕ) → answer ≡ IswAnswer.Written size → IswSpelled order (take size held)
   pub reads : (size : ℕ) → answer ≡ IswAnswer.Written size → ReadAsProduct order (take size held)
   pub kept : (why : Refusal) → answer ≡ IswAnswer.Refused why → held ≡ buffer
