@@ -1,5 +1,7 @@
 // The program isw: takes an order as its argument and prints the multiplication of Ishai, Sahai and Wagner at that order, a text for `report`.
 // Standard output gets the text and nothing else; for anything but an order that is written, standard error gets a line that says so.
+ghost use Prim.Native.Nat.{_≤_};
+ghost use lib.ListN.{length};
 use description::MAX_TEXT_BYTES;
 use isw_gadget::MAX_ISW_ORDER;
 use isw_text::IswAnswer;
@@ -42,8 +44,10 @@ fn answer(word: &[u8]) {
     }
 }
 
-fn print(text: &[u8], length: usize) {
-    if length <= text.len() && !io::write_all(STDOUT_FILENO, &text[0..length]) {
+fn print(text: &[u8], end: usize)
+    requires { ⌜ end ≤ length (now text) ⌝ }
+{
+    if !io::write_all(STDOUT_FILENO, &text[0..end]) {
         os::fail(b"isw: standard output");
     }
 }
