@@ -1,14 +1,13 @@
 -- The verdict's answers, path by path. Where a test refuses, nothing was written; else the search's result decides.
---     searched-decided, stretch-decided     the code's test over all bits of a record finds the sets that the gadget's shares and masks give
---     opened-for, short                     what the first tests say: the notion, and a table of at most 512 wires
---     Promise, verdict-answer               the whole of a verdict's promise; its answer after the first tests
+--     Promise, verdict-answer     the whole of a verdict's promise; its answer after the first tests
 --     before, order-low, order-high, no-room, found-none, found-set     the verdict's answers
---     Passed, bytes, seven, size-within     all tests of a verdict passed: the table's bytes, the order and the size that was found are within limits
-use Prim.Native.Nat.{ℕ, suc, _-_, _≤_, _<_}
+--     Passed                      all tests of a verdict passed
+--     bytes, order-small, size-within     then the table's bytes, the order and the size that was found are within limits
+use Prim.Native.Nat.{ℕ, _-_, _≤_, _<_}
 use native.Mathlib.Omega.{arith}
 use mathlib.Core.Path.{_≡_, refl, sym, _∙_, ap, ap₂}
-use mathlib.Core.Bool.{Bool, true, cond, and-false}
-use mathlib.Core.List.{List, [], _∷_, map}
+use mathlib.Core.Bool.{cond, and-false}
+use mathlib.Core.List.{List, [], _∷_}
 use borrow.Author.Tests.{le-leb, lt-leb, le-ltb, lt-ltb}
 use lib.Dec.{ltb, leb}
 use lib.ListN.{length, take, drop}
@@ -17,65 +16,20 @@ use Rattle.limits.specs.Limits.{maxShares, maxMasks, maxTableBytes, maxSize}
 use Rattle.basics.specs.Folds.{keep}
 use Rattle.basics.specs.Told.{Lent, values, turnedDown}
 use Rattle.wires.specs.declared.Notion.{Notion}
-use Rattle.wires.specs.Wires.{breaks}
-use Rattle.records.specs.Layout.{wireAt, wireCount}
+use Rattle.records.specs.Layout.{wireCount}
 use Rattle.table.proofs.Conditions.{accepted-exactly}
-use Rattle.table.proofs.Entries.{set-decided}
-use Rattle.revolving.specs.Order.{revolving, setAt, isSet}
-use Rattle.revolving.proofs.Revolving.{revolving-length, set-at-is-set}
 use Rattle.verdict_answers.specs.declared.Refusal.{Refusal}
 use Rattle.verdict_answers.specs.declared.Refusal.the-variants.{OrderOutOfRange, BufferTooShort}
 use Rattle.verdict_answers.specs.declared.VerdictAnswer.{VerdictAnswer}
-use Rattle.search.specs.Search.{searched, stretch, isBreaking, first, FirstSet}
+use Rattle.search.specs.Search.{searched, isBreaking, first, FirstSet}
 use Rattle.verdict_answers.specs.Answers.{refusalNumber, verdictTold, wrongOrder, notionOf, written, firstShown, verdictOf}
 use Rattle.verdict_answers.specs.Guarantee.{Guarantee}
 use Rattle.verdict_answers.proofs.Conditions.{verdict-answered}
-use Rattle.search.proofs.Keeping.{each-place, each-take, each-drop, keep-same}
-use Rattle.search.proofs.Turns.{set-inside}
-use Rattle.verdict_answers.proofs.Watching.{each-searched, shown-none, holds, broken, refused}
-use Rattle.verdict.specs.declared.Opened.{Opened}
-use Rattle.verdict.specs.Opening.{openedTold, opens}
-use Rattle.verdict.proofs.Admitting.{Opens, opens-notion, opened-answer, opened-refusal}
-
--- ---- all bits of a record, or the gadget's own
-
-module _ (table : List ℕ) (shares masks notion : ℕ) (kind : Notion) (o : Opens table shares masks notion kind) where
-  abbrev wide : List ℕ → Bool
-  wide = isBreaking kind table maxShares maxMasks
-
-  abbrev own : List ℕ → Bool
-  own = isBreaking (notionOf notion) table shares masks
-
-  decided : (k : ℕ) (s : List ℕ) → isSet (wireCount table) k s ≡ true → wide s ≡ own s
-  unfolding isBreaking
-  decided k s e =
-      set-decided table shares masks (o .sound) kind s (set-inside table k s e)
-      ∙ ap (λ (i : Notion). breaks i shares masks (map (wireAt table) s)) (o .named)
-
-  pub searched-decided : (order : ℕ) → keep wide (searched (wireCount table) order) ≡ keep own (searched (wireCount table) order)
-  searched-decided order =
-      keep-same wide own (searched (wireCount table) order)
-      (each-searched (wireCount table) (λ s. wide s ≡ own s) order (λ k b s e. decided (suc k) s e))
-
-  pub stretch-decided : (k from to : ℕ) → keep wide (stretch (wireCount table) k from to) ≡ keep own (stretch (wireCount table) k from to)
-  stretch-decided k from to =
-      let all = revolving (wireCount table) k in
-      keep-same wide own (stretch (wireCount table) k from to)
-      (each-take (λ s. wide s ≡ own s) (to - from) (drop from all)
-      (each-drop (λ s. wide s ≡ own s) from all
-      (each-place (λ s. wide s ≡ own s) all []
-      (λ i b. decided k (setAt (wireCount table) k i) (set-at-is-set (wireCount table) k i (omega (arith, revolving-length (wireCount table) k)))))))
-
--- ---- the limits of an accepted table
-
-module _ (table : List ℕ) (shares masks notion : ℕ) (kind : Notion) (told : openedTold (Opened.For kind) ≡ opens table shares masks notion) where
-  pub opened-for : Opens table shares masks notion kind
-  opened-for = opens-notion table shares masks notion kind told
-
-  pub short : length table ≤ maxTableBytes
-  short = opened-for .sound .short
-
--- ---- the verdict
+use Rattle.verdict_answers.proofs.Watching.{shown-none, holds, broken, refused}
+use Rattle.opening.specs.declared.Opened.{Opened}
+use Rattle.opening.specs.Opening.{openedTold, opens}
+use Rattle.opening.proofs.Admitting.{opened-for, short, opened-answer, opened-refusal}
+use Rattle.opening.proofs.Deciding.{searched-decided}
 
 pub record Promise (answer : VerdictAnswer) (held table : List ℕ) (shares masks notion order : ℕ) (buffer : List ℕ) : Type 0 where
   pub equation : verdictTold answer held ≡ verdictOf table shares masks notion order buffer

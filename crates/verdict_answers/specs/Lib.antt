@@ -1,4 +1,4 @@
--- The definitions that the promises of `verdict` cite.
+-- The definitions that the promises of `verdict`, `ranges` and `dependence` cite.
 --     Answers     each answer in the numbers of the scope, and what each entry answers
 --     Conditions  what each entry turns down, in the order in which it is tested
 --     Guarantee   demand 3

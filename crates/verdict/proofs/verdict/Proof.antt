@@ -10,8 +10,8 @@ use Rattle.verdict_answers.specs.Answers.{verdictTold, verdictOf}
 use Rattle.verdict_answers.specs.First.{VerdictFinds}
 use Rattle.verdict_answers.specs.Guarantee.{Guarantee}
 use Rattle.verdict_answers.proofs.Finds.{verdict-finds}
-use Rattle.verdict.specs.declared.Opened.{Opened}
-use Rattle.verdict.specs.Opening.{openedTold, opens}
+use Rattle.opening.specs.declared.Opened.{Opened}
+use Rattle.opening.specs.Opening.{openedTold, opens}
 use Rattle.verdict.proofs.Entries.{Promise, Passed, before, order-low, order-high, no-room, found-none, found-set, bytes, order-small, size-within}
 use Rattle.verdict.proofs.verdict.Statement.{statement}
 use Rattle.verdict.proofs.verdict.Tie as tie

@@ -2,12 +2,15 @@
 --     open-refused, open-known, open-wrong     what `opening` tells
 --     Opens                                    what it says where it refuses nothing: an accepted table, and the notion of its number
 --     opens-notion                             that is so where it tells a notion
+--     opened-for, short                        what the first tests say: the notion, and a table of at most 512 wires
 --     opened-answer, opened-refusal            the operation's own answer stands, or the refusal of these tests does
-use Prim.Native.Nat.{ℕ}
+use Prim.Native.Nat.{ℕ, _≤_}
 use mathlib.Core.Path.{_≡_, refl, sym, _∙_, ap}
 use mathlib.Core.Bool.{Bool, true, false, cond}
 use mathlib.Core.List.{List, [], _∷_, _++_}
 use borrow.Author.Tests.{ne-eqb}
+use lib.ListN.{length}
+use Rattle.limits.specs.Limits.{maxTableBytes}
 use Rattle.basics.specs.Told.{values, refusal}
 use Rattle.basics.specs.Conditions.{_when_}
 use Rattle.basics.proofs.Conditions.{Chain, own, settles-told}
@@ -19,8 +22,8 @@ use Rattle.table.proofs.Conditions.{Sound, sound-none, none-sound, accepted-exa
 use Rattle.verdict_answers.specs.Answers.{wrongNotion, notionOf, opened}
 use Rattle.verdict_answers.specs.Conditions.{WrongNotion}
 use Rattle.verdict_answers.proofs.Conditions.{opened-chain}
-use Rattle.verdict.specs.declared.Opened.{Opened}
-use Rattle.verdict.specs.Opening.{notionNumber, openedTold, opens}
+use Rattle.opening.specs.declared.Opened.{Opened}
+use Rattle.opening.specs.Opening.{notionNumber, openedTold, opens}
 
 known : (kind : Notion) → wrongNotion (notionNumber kind) ≡ false
 unfolding notionNumber
@@ -76,3 +79,10 @@ module _ (table : List ℕ) (shares masks notion : ℕ) where
     pub opened-refusal : (k : ℕ) → refusal k ≡ opens table shares masks notion → opened refuse table shares masks notion answer ≡ refuse k
     opened-refusal k e =
         opened-chain table shares masks notion (own refuse answer) .first k (settles-told opens-chain .refused k .0 (sym e))
+
+module _ (table : List ℕ) (shares masks notion : ℕ) (kind : Notion) (told : openedTold (Opened.For kind) ≡ opens table shares masks notion) where
+  pub opened-for : Opens table shares masks notion kind
+  opened-for = opens-notion table shares masks notion kind told
+
+  pub short : length table ≤ maxTableBytes
+  short = opened-for .sound .short

@@ -8,7 +8,7 @@ use Rattle.basics.specs.Told.{Told, values, refusal}
 use Rattle.wires.specs.declared.Notion.{Notion}
 use Rattle.wires.specs.declared.Notion.the-variants.{Ni, Sni}
 use Rattle.verdict_answers.specs.Answers.{refusalNumber, opened}
-use Rattle.verdict.specs.declared.Opened.{Opened}
+use Rattle.opening.specs.declared.Opened.{Opened}
 
 unfoldable pub notionNumber : Notion → ℕ
 notionNumber Ni = 1

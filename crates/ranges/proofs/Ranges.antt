@@ -25,10 +25,10 @@ use Rattle.search.specs.Search.{stretch, isBreaking, first, FirstRank}
 use Rattle.verdict_answers.specs.Answers.{rangeTold, notionOf, written, firstRanked, rangeCheck}
 use Rattle.verdict_answers.proofs.Conditions.{range-answered}
 use Rattle.search.proofs.Turns.{rank-first}
-use Rattle.verdict.specs.declared.Opened.{Opened}
-use Rattle.verdict.specs.Opening.{openedTold, opens}
-use Rattle.verdict.proofs.Admitting.{opened-answer, opened-refusal}
-use Rattle.verdict.proofs.Entries.{stretch-decided, opened-for, short}
+use Rattle.opening.specs.declared.Opened.{Opened}
+use Rattle.opening.specs.Opening.{openedTold, opens}
+use Rattle.opening.proofs.Admitting.{opened-for, short, opened-answer, opened-refusal}
+use Rattle.opening.proofs.Deciding.{stretch-decided}
 
 module _ (table : List ℕ) (shares masks notion size from to : ℕ) (buffer : List ℕ) where
   abbrev all : ℕ

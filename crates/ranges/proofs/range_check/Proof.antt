@@ -1,4 +1,4 @@
--- `verdict::range_check` meets its contract: each refusal where its test is the first to fail, with the buffer as it was, else what the search
+-- `ranges::range_check` meets its contract: each refusal where its test is the first to fail, with the buffer as it was, else what the search
 -- found. Assumes nothing.
 use Prim.Native.Nat.{ℕ}
 use native.Mathlib.Omega.{arith}
@@ -10,12 +10,12 @@ use Rattle.verdict_answers.specs.declared.RangeAnswer.{RangeAnswer}
 use Rattle.verdict_answers.specs.Answers.{rangeTold, rangeCheck}
 use Rattle.verdict_answers.specs.First.{RangeFinds}
 use Rattle.verdict_answers.proofs.Finds.{range-finds}
-use Rattle.verdict.specs.declared.Opened.{Opened}
-use Rattle.verdict.specs.Opening.{openedTold, opens}
-use Rattle.verdict.proofs.Entries.{short}
-use Rattle.verdict.proofs.Ranges.{PassedRange, range-bytes, range-before, size-large, range-room, ranks-low, ranks-high, range-clean, range-found}
-use Rattle.verdict.proofs.range_check.Statement.{statement}
-use Rattle.verdict.proofs.range_check.Tie as tie
+use Rattle.opening.specs.declared.Opened.{Opened}
+use Rattle.opening.specs.Opening.{openedTold, opens}
+use Rattle.opening.proofs.Admitting.{short}
+use Rattle.ranges.proofs.Ranges.{PassedRange, range-bytes, range-before, size-large, range-room, ranks-low, ranks-high, range-clean, range-found}
+use Rattle.ranges.proofs.range_check.Statement.{statement}
+use Rattle.ranges.proofs.range_check.Tie as tie
 
 promised : {answer : RangeAnswer} {held table : List ℕ} {shares masks notion size from to : ℕ} (buffer : List ℕ)
     → rangeTold answer held ≡ rangeCheck table shares masks notion size from to buffer

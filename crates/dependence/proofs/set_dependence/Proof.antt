@@ -1,14 +1,14 @@
--- `verdict::set_dependence` meets its contract: each refusal where its test is the first to fail, else the counts of the set.
+-- `dependence::set_dependence` meets its contract: each refusal where its test is the first to fail, else the counts of the set.
 -- Assumes nothing.
 use mathlib.Core.Path.{_≡_, sym, _∙_, ap}
 use borrow.Author.Needs.{needs}
 use borrow.Author.Tests.{not-true, not-false}
 use Rattle.wires.specs.declared.Notion.{Notion}
-use Rattle.verdict.specs.declared.Opened.{Opened}
-use Rattle.verdict.specs.Opening.{openedTold, opens}
-use Rattle.verdict.proofs.Dependence.{refused-first, set-too-large, not-rising, set-counted, rising-inside}
-use Rattle.verdict.proofs.set_dependence.Statement.{statement}
-use Rattle.verdict.proofs.set_dependence.Tie as tie
+use Rattle.opening.specs.declared.Opened.{Opened}
+use Rattle.opening.specs.Opening.{openedTold, opens}
+use Rattle.dependence.proofs.Dependence.{refused-first, set-too-large, not-rising, set-counted, rising-inside}
+use Rattle.dependence.proofs.set_dependence.Statement.{statement}
+use Rattle.dependence.proofs.set_dependence.Tie as tie
 
 -- the notion, where the first tests passed
 abbrev kind : tie.After-opened2 → Notion

@@ -1,13 +1,13 @@
--- `verdict::opening` meets its contract: the tests' refusal, or the notion of the number, or 14.
+-- `opening::opening` meets its contract: the tests' refusal, or the notion of the number, or 14.
 -- Assumes nothing.
 use mathlib.Core.Path.{sym, _∙_, ap}
 use borrow.Author.Needs.{needs}
 use Rattle.wires.specs.declared.Notion.the-variants.{Ni, Sni}
 use Rattle.table.specs.Answers.{tableTold}
-use Rattle.verdict.specs.Opening.{notionNumber}
-use Rattle.verdict.proofs.Admitting.{open-refused, open-known, open-wrong}
-use Rattle.verdict.proofs.opening.Statement.{statement}
-use Rattle.verdict.proofs.opening.Tie as tie
+use Rattle.opening.specs.Opening.{notionNumber}
+use Rattle.opening.proofs.Admitting.{open-refused, open-known, open-wrong}
+use Rattle.opening.proofs.opening.Statement.{statement}
+use Rattle.opening.proofs.opening.Tie as tie
 
 table-check-requires : tie.Need-table-check-requires
 table-check-requires c κs = search needs

@@ -1,12 +1,12 @@
--- `verdict::write` meets its contract: before each turn the first numbers are copied, and the rest of the buffer is as it was.
+-- `opening::write` meets its contract: before each turn the first numbers are copied, and the rest of the buffer is as it was.
 -- Assumes nothing.
 use Prim.Native.Nat.{_-_, _≤_}
 use mathlib.Core.Path.{_≡_, refl}
 use lib.ListN.{length}
 use borrow.Author.Needs.{needs}
-use Rattle.verdict.proofs.Writing.{begun, begun-none, begun-more, begun-all}
-use Rattle.verdict.proofs.write.Statement.{statement}
-use Rattle.verdict.proofs.write.Tie as tie
+use Rattle.opening.proofs.Writing.{begun, begun-none, begun-more, begun-all}
+use Rattle.opening.proofs.write.Statement.{statement}
+use Rattle.opening.proofs.write.Tie as tie
 
 abbrev Inv-loop : tie.InvT-loop
 Inv-loop found set₀ i₀ i-end set i = (length set ≡ length set₀) × (i-end ≡ length found) × (i ≤ i-end) × (set ≡ begun found set₀ i)

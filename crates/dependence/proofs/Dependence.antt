@@ -26,10 +26,9 @@ use Rattle.verdict_answers.specs.declared.DependenceAnswer.{DependenceAnswer}
 use Rattle.verdict_answers.specs.Answers.{refusalNumber, dependenceTold, notionOf, depended, setDependence}
 use Rattle.verdict_answers.specs.Dependence.{DependenceMeans}
 use Rattle.verdict_answers.proofs.Dependence.{means}
-use Rattle.verdict.specs.declared.Opened.{Opened}
-use Rattle.verdict.specs.Opening.{openedTold, opens}
-use Rattle.verdict.proofs.Admitting.{opened-answer, opened-refusal}
-use Rattle.verdict.proofs.Entries.{opened-for}
+use Rattle.opening.specs.declared.Opened.{Opened}
+use Rattle.opening.specs.Opening.{openedTold, opens}
+use Rattle.opening.proofs.Admitting.{opened-for, opened-answer, opened-refusal}
 
 abbrev pub DependencePromise : DependenceAnswer → List ℕ → ℕ → ℕ → ℕ → List ℕ → Type 0
 DependencePromise answer table shares masks notion set =

@@ -1,0 +1,3 @@
+-- How the set dependence meets its promises.
+--     Dependence  its answers, path by path
+pub mod Dependence
