@@ -1,6 +1,7 @@
 -- What reading tells, and what the answer then says of the text's grammar.
---     read-refused, read-many, read-short, read-copied     the answer where the text is turned down, where it has too many wires, where the
---                        lent table is too short, and where the records are copied into it
+--     tableless-read, tableless-down     what a text that is read with no table lent, or turned down, comes to with any table
+--     read-refused, read-short, read-copied     the answer where the text is turned down, where the lent table is too short, and where the
+--                        records are copied into it
 --     too-large, large-enough     which number a text that can be read is turned down with, and else what it gives
 --     promised           both promises of reading, from its equation
 --     reads-grammar      whatever is told as the definition tells it is read exactly when the text spells a description within the limits, and
@@ -12,7 +13,7 @@ use mathlib.Core.Path.{_≡_, refl, sym, _∙_, ap, ap₂, subst}
 use mathlib.Core.Logic.{_⊎_, inl, inr}
 use mathlib.Core.Bool.{Bool, true, false, cond, _||_}
 use mathlib.Core.List.{List, [], _∷_, _++_}
-use borrow.Author.Tests.{ltb-false, lt-ltb, le-ltb}
+use borrow.Author.Tests.{ltb-true, ltb-false, lt-ltb, le-ltb}
 use lib.Dec.{ltb}
 use lib.ListN.{length, take, drop, length-append}
 use lib.Seq.{take-at}
@@ -30,17 +31,27 @@ use Rattle.description.specs.declared.Refusal.the-variants.{TooManyWires}
 use Rattle.description.proofs.Encoding.{length-records, record-count}
 use Rattle.description.proofs.Exactly.{spelled-read, read-spelled, spelled-limits}
 use Rattle.description.proofs.Tables.{wires-mean, places-mean, parts-within, table-passes}
-use Rattle.reader.specs.Answers.{ReadLent, gives, refused, readTold, tooLarge, lentReading, readText, partCheck}
+use Rattle.reader.specs.Answers.{ReadLent, gives, refused, readTold, tableless, tooLarge, lentReading, readText, partCheck}
 use Rattle.reader.specs.Scratch.{Scratched}
 use Rattle.reader.specs.Reads.{Readable, Given, ReadsGrammar}
 use Rattle.reader.proofs.Parts.{part-exactly}
 use Rattle.reader.specs.declared.ReadAnswer.{ReadAnswer}
 
-module _ (text table : List ℕ) where
-  pub read-refused : (why : Refusal) (offset : ℕ) → reading text ≡ turnedDown why offset
-      → readTold (ReadAnswer.Refused why offset) table ≡ readText text table
-  read-refused why offset e = sym (ap (lentReading text table) e)
+pub tableless-read : (text : List ℕ) (order masks : ℕ) (ws : List Listed) → tableless text (reading text) ≡ read order masks ws
+    → (reading text ≡ read order masks ws) × (length ws ≤ maxWires)
+tableless-read text order masks ws e = from (reading text) e
+  where
+    from : (r : Reading) → tableless text r ≡ read order masks ws → (r ≡ read order masks ws) × (length ws ≤ maxWires)
+    from (turnedDown why offset) e = let z : _≡_ {A = ℕ} 0 1 = cc in absurd (omega (arith, z))
+    from (read o m vs) e = sized (ltb maxWires (length vs)) refl e
+      where
+        sized : (b : Bool) → ltb maxWires (length vs) ≡ b → cond b (turnedDown TooManyWires (length text)) (read o m vs) ≡ read order masks ws
+            → (read o m vs ≡ read order masks ws) × (length ws ≤ maxWires)
+        sized true g e = let z : _≡_ {A = ℕ} 0 1 = cc in absurd (omega (arith, z))
+        sized false g e =
+            let same : vs ≡ ws = cc in (e, subst (λ (l : List Listed). length l ≤ maxWires) same (ltb-false maxWires (length vs) g))
 
+module _ (text table : List ℕ) where
   -- "10: over 512 wires or lent table too short, at the text's length"; else the four values, and nothing past the last record
   module _ (order masks : ℕ) (ws : List Listed) (e : reading text ≡ read order masks ws) where
     by-size : (large : Bool) → tooLarge table (length ws) ≡ large
@@ -67,24 +78,45 @@ module _ (text table : List ℕ) where
     large-enough few room =
         by-size false (ap₂ _||_ (le-ltb maxWires (length ws) few) (le-ltb (length table) (recordBytes * length ws) room))
 
+  -- with no table lent, and with any
+  pub tableless-down : (why : Refusal) (offset : ℕ) → tableless text (reading text) ≡ turnedDown why offset
+      → readText text table ≡ record { told = refused (refusalNumber why) offset; held = table }
+  tableless-down why offset e = from (reading text) refl e
+    where
+      from : (r : Reading) → reading text ≡ r → tableless text r ≡ turnedDown why offset
+          → readText text table ≡ record { told = refused (refusalNumber why) offset; held = table }
+      from (turnedDown other place) f e = ap (lentReading text table) (f ∙ e)
+      from (read order masks ws) f e = sized (ltb maxWires (length ws)) refl e
+        where
+          sized : (b : Bool) → ltb maxWires (length ws) ≡ b
+              → cond b (turnedDown TooManyWires (length text)) (read order masks ws) ≡ turnedDown why offset
+              → readText text table ≡ record { told = refused (refusalNumber why) offset; held = table }
+          sized true g e =
+              too-large order masks ws f (inl (ltb-true maxWires (length ws) g)) ∙ ap (lentReading text table) e
+          sized false g e = let z : _≡_ {A = ℕ} 0 1 = cc in absurd (omega (arith, z))
+
+  pub read-refused : (why : Refusal) (offset : ℕ) → tableless text (reading text) ≡ turnedDown why offset
+      → readTold (ReadAnswer.Refused why offset) table ≡ readText text table
+  read-refused why offset e = sym (tableless-down why offset e)
+
   -- the same for the wires that the code counted
-  module _ (scratch : List ℕ) (order shares masks wires : ℕ) (s : Scratched (reading text) scratch order shares masks wires) where
-    pub read-many : maxWires < wires → readTold (ReadAnswer.Refused TooManyWires (length text)) table ≡ readText text table
-    read-many h = sym (too-large order masks (s .listed-wires) (s .reads) (inl (omega (arith, s .count, h))))
+  module _ (scratch : List ℕ) (order shares masks wires : ℕ) (s : Scratched (tableless text (reading text)) scratch order shares masks wires) where
+    reads : reading text ≡ read order masks (s .listed-wires)
+    reads = tableless-read text order masks (s .listed-wires) (s .reads) .0
 
     pub read-short : length table < recordBytes * wires → readTold (ReadAnswer.Refused TooManyWires (length text)) table ≡ readText text table
-    read-short h = sym (too-large order masks (s .listed-wires) (s .reads) (inr (omega (arith, s .count, h))))
+    read-short h = sym (too-large order masks (s .listed-wires) reads (inr (omega (arith, s .count, h))))
 
-    pub read-copied : (held : List ℕ) → wires ≤ maxWires → recordBytes * wires ≤ length table
+    pub read-copied : (held : List ℕ) → recordBytes * wires ≤ length table
         → held ≡ take (recordBytes * wires) scratch ++ drop (recordBytes * wires) table
         → readTold (ReadAnswer.Read order shares masks wires) held ≡ readText text table
-    read-copied held few room e =
+    read-copied held room e =
         ap₂ (λ (n : ℕ) (l : List ℕ). readTold (ReadAnswer.Read order n masks wires) l) (s .same-shares)
-        (e ∙ ap (λ (l : List ℕ). l ++ drop (recordBytes * wires) table) (s .records few))
+        (e ∙ ap (λ (l : List ℕ). l ++ drop (recordBytes * wires) table) (s .records))
         ∙ ap
         (λ (n : ℕ). readTold (ReadAnswer.Read order (order + 1) masks n) (recordsOf (s .listed-wires) ++ drop (recordBytes * n) table))
         (s .count)
-        ∙ sym (large-enough order masks (s .listed-wires) (s .reads) (omega (arith, s .count, few)) (omega (arith, s .count, room)))
+        ∙ sym (large-enough order masks (s .listed-wires) reads (omega (arith, s .count, s .few)) (omega (arith, s .count, room)))
 
   -- ---- the grammar
 

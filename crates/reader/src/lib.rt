@@ -9,11 +9,10 @@ ghost use Rattle.reader.specs.Answers.{readTold, readText, partRefusalNu
 ghost use Rattle.reader.specs.Reads.{ReadsGrammar};
 use description::Refusal;
 use limits::MAX_TABLE_BYTES;
-use limits::MAX_WIRES;
 use limits::RECORD_BYTES;
 use records::layout::text_place;
 
-mod scratch;
+pub mod scratch;
 
 // A text that was read gives its order, shares, mask count and wire count; one that is turned down, why and the byte offset.
 pub enum ReadAnswer {
@@ -73,12 +72,6 @@ pub fn read_text(text: &[u8], table: &mut [u8]) -> ReadAnswer
             masks,
             wires,
         } => {
-            if MAX_WIRES < wires {
-                return ReadAnswer::Refused {
-                    why: Refusal::TooManyWires,
-                    offset: text.len(),
-                };
-            }
             if table.len() < RECORD_BYTES * wires {
                 return ReadAnswer::Refused {
                     why: Refusal::TooManyWires,

@@ -1,4 +1,4 @@
-// Reading into a table of the code's own: the whole text, with no table lent. Refusal 10 is the caller's.
+// Reading into a table of the code's own: the whole text, with no table lent. Refusal 10 is here for over 512 wires alone.
 ghost use mathlib.Core.Path.{_≡_};
 ghost use Prim.Native.Nat.{_≤_};
 ghost use lib.ListN.{length};
@@ -13,6 +13,7 @@ use description::Masks;
 use description::MasksLine;
 use description::OrderLine;
 use description::Refusal;
+use limits::MAX_WIRES;
 use output_lines::groups::Answer;
 use output_lines::lines;
 use tokens::header::masks_line;
@@ -21,7 +22,7 @@ use tokens::header::order_line;
 // Where the second line starts: `ORDER = `, a digit and a line end stand before it.
 const SECOND_LINE: usize = 10;
 
-// Reads a text into a table of 12,288 bytes; wires are counted on past the 512th.
+// Reads a text into a table of 12,288 bytes, which has room for every text that is not refused.
 pub fn read_scratch(text: &[u8], scratch: &mut [u8]) -> ReadAnswer
     requires { ⌜ length (now scratch) ≡ maxTableBytes ⌝ }
     ensures { λ r. ⌜ ScratchReads (now (text .entry)) (now (scratch .exit)) r ⌝ }
@@ -79,11 +80,20 @@ fn read_lines(text: &[u8], scratch: &mut [u8], order: usize, masks: Masks) -> Re
             why: why,
             offset: offset,
         },
-        Answer::Went(done) => ReadAnswer::Read {
-            order: order,
-            shares: order + 1,
-            masks: masks.count,
-            wires: done.wires,
-        },
+        Answer::Went(done) => {
+            // wires are counted on past the last that is written
+            if MAX_WIRES < done.wires {
+                return ReadAnswer::Refused {
+                    why: Refusal::TooManyWires,
+                    offset: text.len(),
+                };
+            }
+            ReadAnswer::Read {
+                order: order,
+                shares: order + 1,
+                masks: masks.count,
+                wires: done.wires,
+            }
+        }
     }
 }

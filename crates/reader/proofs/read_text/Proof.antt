@@ -3,7 +3,7 @@
 use mathlib.Core.Path.{subst}
 use Rattle.reader.specs.Scratch.{ScratchReads}
 use Rattle.reader.specs.declared.ReadAnswer.{ReadAnswer}
-use Rattle.reader.proofs.Telling.{read-refused, read-many, read-short, read-copied, promised}
+use Rattle.reader.proofs.Telling.{read-refused, read-short, read-copied, promised}
 use borrow.Author.Needs.{needs}
 use Rattle.reader.proofs.read_text.Statement.{statement}
 use Rattle.reader.proofs.read_text.Tie as tie
@@ -20,24 +20,19 @@ enum-known-read c = search needs
 enum-known-read-2 : tie.Need-enum-known-read-2
 enum-known-read-2 c = search needs
 
+mul-if1 : tie.Need-mul-if1
+mul-if1 c =
+    let few = (subst (λ (r : ReadAnswer). ScratchReads (c .before .before .before .before .before .before .before .before .args .text .now) (c .before .before .before .before .read-scratch .last .1 .0) r)
+    (c .before .read2 .given .1) (c .before .before .before .before .read-scratch .ensures)) .few in
+    search needs
+
 returns : tie.Need-returns
 returns c =
     let a = c .before .before .before .before .before .before .before .before .before .args in
     promised (a .text .now) (a .table .now) _ _
-    (read-many (a .text .now) (a .table .now) (c .before .before .before .before .before .read-scratch .last .1 .0) _ _ _ _
-    (subst (λ (r : ReadAnswer). ScratchReads (a .text .now) (c .before .before .before .before .before .read-scratch .last .1 .0) r)
+    (read-short (a .text .now) (a .table .now) (c .before .before .before .before .before .read-scratch .last .1 .0) _ _ _ _
+    (subst (λ (r : ReadAnswer). ScratchReads (c .before .before .before .before .before .before .before .before .before .args .text .now) (c .before .before .before .before .before .read-scratch .last .1 .0) r)
     (c .before .before .read2 .given .1) (c .before .before .before .before .before .read-scratch .ensures)) (c .if1 .taken))
-
-mul-if2 : tie.Need-mul-if2
-mul-if2 c = search needs
-
-returns-2 : tie.Need-returns-2
-returns-2 c =
-    let a = c .before .before .before .before .before .before .before .before .before .before .args in
-    promised (a .text .now) (a .table .now) _ _
-    (read-short (a .text .now) (a .table .now) (c .before .before .before .before .before .before .read-scratch .last .1 .0) _ _ _ _
-    (subst (λ (r : ReadAnswer). ScratchReads (a .text .now) (c .before .before .before .before .before .before .read-scratch .last .1 .0) r)
-    (c .before .before .before .read2 .given .1) (c .before .before .before .before .before .before .read-scratch .ensures)) (c .if2 .taken))
 
 slice-aggregate-copy : tie.Need-slice-aggregate-copy
 slice-aggregate-copy c = search needs
@@ -46,32 +41,31 @@ mul-copy : tie.Need-mul-copy
 mul-copy c = search needs
 
 copy-requires : tie.Need-copy-requires
-copy-requires c κs = search needs
+copy-requires c κs =
+    let few = (subst (λ (r : ReadAnswer). ScratchReads (c .before .before .before .before .before .before .before .before .before .before .before .args .text .now) (c .before .before .before .before .before .before .before .read-scratch .last .1 .0) r)
+    (c .before .before .before .before .read2 .given .1) (c .before .before .before .before .before .before .before .read-scratch .ensures)) .few in
+    search needs
 
-returns-3 : tie.Need-returns-3
-returns-3 c =
+returns-2 : tie.Need-returns-2
+returns-2 c =
     let a = c .before .before .before .before .before .before .before .before .args in
     promised (a .text .now) (a .table .now) _ _
     (read-refused (a .text .now) (a .table .now) _ _
-    (subst (λ (r : ReadAnswer). ScratchReads (a .text .now) (c .before .before .before .before .read-scratch .last .1 .0) r)
+    (subst (λ (r : ReadAnswer). ScratchReads (c .before .before .before .before .before .before .before .before .args .text .now) (c .before .before .before .before .read-scratch .last .1 .0) r)
     (c .before .read .given .1) (c .before .before .before .before .read-scratch .ensures)))
 
 same-length : tie.Need-same-length
 same-length c = search needs
 
-returns-4 : tie.Need-returns-4
-returns-4 c =
-    let a = c .before .before .before .before .before .before .before .before .before .before .before .before .before .before .before .args in
+returns-3 : tie.Need-returns-3
+returns-3 c =
+    let a = c .before .before .before .before .before .before .before .before .before .before .before .before .before .before .args in
     promised (a .text .now) (a .table .now) _ _
     (read-copied (a .text .now) (a .table .now)
-    (c .before .before .before .before .before .before .before .before .before .before .before .read-scratch .last .1 .0) _ _ _ _
-    (subst (λ (r : ReadAnswer). ScratchReads (a .text .now)
-    (c .before .before .before .before .before .before .before .before .before .before .before .read-scratch .last .1 .0) r)
-    (c .before .before .before .before .before .before .before .before .read2 .given .1)
-    (c .before .before .before .before .before .before .before .before .before .before .before .read-scratch .ensures))
-    (c .before .before .copy .last .0) (c .before .before .before .before .before .before .if1 .left)
-    (c .before .before .before .before .before .if2 .left)
-    (c .before .before .copy .ensures))
+    (c .before .before .before .before .before .before .before .before .before .before .read-scratch .last .1 .0) _ _ _ _
+    (subst (λ (r : ReadAnswer). ScratchReads (c .before .before .before .before .before .before .before .before .before .before .before .before .before .before .args .text .now) (c .before .before .before .before .before .before .before .before .before .before .read-scratch .last .1 .0) r)
+    (c .before .before .before .before .before .before .before .read2 .given .1) (c .before .before .before .before .before .before .before .before .before .before .read-scratch .ensures))
+    (c .before .before .copy .last .0) (c .before .before .before .before .before .if1 .left) (c .before .before .copy .ensures))
 
 pub read-text-spec : {M : Type 1} → statement M
 read-text-spec =
@@ -81,12 +75,11 @@ read-text-spec =
     read-scratch-requires
     enum-known-read
     enum-known-read-2
+    mul-if1
     returns
-    mul-if2
-    returns-2
     slice-aggregate-copy
     mul-copy
     copy-requires
-    returns-3
+    returns-2
     same-length
-    returns-4)
+    returns-3)

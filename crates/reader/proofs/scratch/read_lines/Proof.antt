@@ -1,10 +1,10 @@
--- `reader::scratch::read_lines` meets its contract: what the lines gave is what the run gives.
+-- `reader::scratch::read_lines` meets its contract: what the lines gave is what the run gives, and over 512 wires are a 10.
 -- Assumes nothing.
 use Prim.Native.Nat.{_+_}
 use mathlib.Core.Path.{subst}
 use Rattle.output_lines.specs.Going.{LinesRead}
 use Rattle.output_lines.specs.declared.groups.Answer.{Answer}
-use Rattle.reader.proofs.Heading.{lines-refused, lines-scratched}
+use Rattle.reader.proofs.Heading.{lines-refused, lines-many, lines-scratched}
 use borrow.Author.Needs.{needs}
 use Rattle.reader.proofs.scratch.read_lines.Statement.{statement}
 use Rattle.reader.proofs.scratch.read_lines.Tie as tie
@@ -21,19 +21,20 @@ enum-known-read c = search needs
 enum-known-read-2 : tie.Need-enum-known-read-2
 enum-known-read-2 c = search needs
 
-add-t13 : tie.Need-add-t13
-add-t13 c = search needs
-
 same-length : tie.Need-same-length
 same-length c = search needs
 
 returns : tie.Need-returns
 returns c =
-    let a = c .before .before .before .before .before .before .before .before .before .args in
-    lines-refused (a .text .now) (a .order) (a .masks) (c .before .before .before .before .before .lines .last .1 .0) _ _
+    let a = c .before .before .before .before .before .before .before .before .before .before .before .args in
+    lines-many (a .text .now) (a .order) (a .masks) (c .before .before .before .before .before .before .before .lines .last .1 .0) _
     (subst (λ (r : Answer). LinesRead (a .order + 1) (a .masks .declared) (a .text .now) (a .masks .end)
-    (c .before .before .before .before .before .lines .last .1 .0) r) (c .before .read .given .1)
-    (c .before .before .before .before .before .lines .ensures))
+    (c .before .before .before .before .before .before .before .lines .last .1 .0) r) (c .before .before .before .read2 .given .1)
+    (c .before .before .before .before .before .before .before .lines .ensures))
+    (c .if1 .taken)
+
+add-t16 : tie.Need-add-t16
+add-t16 c = search needs
 
 same-length-2 : tie.Need-same-length-2
 same-length-2 c = search needs
@@ -41,11 +42,22 @@ same-length-2 c = search needs
 returns-2 : tie.Need-returns-2
 returns-2 c =
     let a = c .before .before .before .before .before .before .before .before .before .args in
-    let pre = c .before .before .before .before .before .before .before .before .before .pre in
-    lines-scratched (a .text .now) (a .order) (a .masks) (c .before .before .before .before .before .lines .last .1 .0) _ (pre .0) (pre .2)
+    lines-refused (a .text .now) (a .order) (a .masks) (c .before .before .before .before .before .lines .last .1 .0) _ _
     (subst (λ (r : Answer). LinesRead (a .order + 1) (a .masks .declared) (a .text .now) (a .masks .end)
-    (c .before .before .before .before .before .lines .last .1 .0) r) (c .before .read2 .given .1)
+    (c .before .before .before .before .before .lines .last .1 .0) r) (c .before .read .given .1)
     (c .before .before .before .before .before .lines .ensures))
+
+same-length-3 : tie.Need-same-length-3
+same-length-3 c = search needs
+
+returns-3 : tie.Need-returns-3
+returns-3 c =
+    let a = c .before .before .before .before .before .before .before .before .before .before .before .args in
+    lines-scratched (a .text .now) (a .order) (a .masks) (c .before .before .before .before .before .before .before .lines .last .1 .0) _
+    (subst (λ (r : Answer). LinesRead (a .order + 1) (a .masks .declared) (a .text .now) (a .masks .end)
+    (c .before .before .before .before .before .before .before .lines .last .1 .0) r) (c .before .before .before .read2 .given .1)
+    (c .before .before .before .before .before .before .before .lines .ensures))
+    (c .before .before .before .before .before .before .before .before .before .before .before .pre .2) (c .if1 .left)
 
 pub read-lines-spec : {M : Type 1} → statement M
 read-lines-spec =
@@ -55,8 +67,10 @@ read-lines-spec =
     lines-requires
     enum-known-read
     enum-known-read-2
-    add-t13
     same-length
     returns
+    add-t16
     same-length-2
-    returns-2)
+    returns-2
+    same-length-3
+    returns-3)
