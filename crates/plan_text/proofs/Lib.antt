@@ -3,7 +3,11 @@
 --     Totals      all sets together
 --     Ten         reading by itself gives no 10
 --     Sizing      what the entry tells, and what its answer says
+--     Exactly     the words of what it says fix the answer
+--     Samples     examples, proved by running the definitions
 pub mod Counting
 pub mod Totals
 pub mod Ten
 pub mod Sizing
+pub mod Exactly
+pub mod Samples
