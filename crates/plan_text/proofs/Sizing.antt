@@ -1,6 +1,7 @@
 -- What the entry tells, and what its answer says.
 --     read-says, refused-says      reading and the set counts say the same as the definition, of a text that is read and of one that is turned down
 --     gave, turned-down            both promises of the entry, on its two paths
+--     spelled-figures, figures-spelled     it answers exactly where the text spells a description within the limits, with that description's figures
 use Prim.Native.Nat.{ℕ, suc, _+_, _-_, _*_, _≤_, _<_}
 use native.Mathlib.Omega.{arith}
 use mathlib.Core.Path.{_≡_, refl, sym, _∙_, ap, subst}
@@ -10,7 +11,7 @@ use mathlib.Core.List.{List}
 use borrow.Author.Tests.{ltb-true, lt-ltb, le-ltb}
 use lib.Dec.{ltb}
 use lib.ListN.{length, replicate, length-replicate}
-use Rattle.limits.specs.Limits.{maxOrder, maxWires, maxSize, recordBytes}
+use Rattle.limits.specs.Limits.{maxOrder, maxWires, maxSize, maxTableBytes, recordBytes}
 use Rattle.counts.specs.Counts.{binom}
 use Rattle.description.specs.Run.{Reading, read, turnedDown, reading, refusalNumber}
 use Rattle.description.specs.Grammar.{wiresOf, maskCount}
@@ -19,10 +20,11 @@ use Rattle.description.specs.declared.Refusal.{Refusal}
 use Rattle.description.specs.declared.Refusal.the-variants.{TooManyWires}
 use Rattle.description.proofs.Exactly.{spelled-read, read-spelled}
 use Rattle.reader.specs.Answers.{ReadLent, tableless}
+use Rattle.reader.specs.Reads.{Readable}
 use Rattle.reader.specs.Scratch.{ScratchReads}
 use Rattle.reader.specs.declared.ReadAnswer.{ReadAnswer}
 use Rattle.reader.proofs.Telling.{tableless-read, tableless-down, too-large, large-enough}
-use Rattle.plan_text.specs.Answers.{sizeTold, counted, sizeOf, checkSize}
+use Rattle.plan_text.specs.Answers.{figures, sizeTold, counted, sizeOf, checkSize}
 use Rattle.plan_text.specs.Says.{OverMany, Figures, SizeSays}
 use Rattle.plan_text.specs.declared.SizeAnswer.{SizeAnswer}
 use Rattle.plan_text.proofs.Counting.{counted-length, counted-at, counted-rest, zeros}
@@ -111,3 +113,36 @@ module _ (text : List ℕ) where
       (subst (Promised (SizeAnswer.Size order (order + 1) masks (length ws) (recordBytes * length ws))) (sym h)
       (sym (ap sizeOf (s .reads)), read-says text order masks ws (r .0) (r .1) (s .low)))) in
       of shares wires sets (s .same-shares) (s .count) all
+
+-- ---- when it answers
+
+module _ (text : List ℕ) where
+  -- a text that any table can hold is answered with its description's figures
+  pub spelled-figures : (r : Readable text maxTableBytes) → let d = r .description in
+      checkSize text .told ≡ figures (d .order) (d .order + 1) (maskCount (d .names)) (length (wiresOf d)) (recordBytes * length (wiresOf d))
+  spelled-figures r =
+      let d = r .description in
+      let e = spelled-read text d (r .spells) (r .limits) in
+      ap (λ (o : Reading). sizeOf (tableless text o) .told) e
+      ∙ ap
+      (λ (b : Bool).
+      sizeOf (cond b (turnedDown TooManyWires (length text)) (read (d .order) (maskCount (d .names)) (wiresOf d))) .told)
+      (le-ltb maxWires (length (wiresOf d)) (r .few-wires))
+
+  -- and no other text is answered
+  pub figures-spelled : (o h m w b : ℕ) → figures o h m w b ≡ checkSize text .told → Readable text maxTableBytes
+  figures-spelled o h m w b e = go (tableless text (reading text)) refl e
+    where
+      go : (r : Reading) → tableless text (reading text) ≡ r → figures o h m w b ≡ sizeOf r .told → Readable text maxTableBytes
+      go (turnedDown why offset) f e = let z : _≡_ {A = ℕ} 0 1 = cc in absurd (omega (arith, z))
+      go (read order masks ws) f e =
+          let r = tableless-read text order masks ws f in
+          let s = read-spelled text order masks ws (r .0) in
+          let few : length (wiresOf (s .description)) ≤ maxWires = subst (λ (l : List Listed). length l ≤ maxWires) (s .same-wires) (r .1) in
+          record {
+            description = s .description;
+            spells = s .spells;
+            limits = s .limits;
+            few-wires = few;
+            table-room = omega (arith, few);
+          }
