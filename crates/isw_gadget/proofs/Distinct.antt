@@ -18,15 +18,15 @@ use Rattle.basics.proofs.Folds.{fold-map, fold-cong, fold-append, fold-lists, u
 use Rattle.wires.specs.declared.Symbol.{Symbol}
 use Rattle.wires.specs.declared.Symbol.the-variants.{Product, Mask}
 use Rattle.description.specs.Symbols.{maxMask, shareFigure}
-use Rattle.description.specs.Grammar.{none, symbols, sameSymbol}
+use Rattle.description.specs.Grammar.{symbols, sameSymbol}
 use Rattle.description.proofs.Spelling.{same-spelled, spelled-same}
 use Rattle.description.proofs.Distinct.{amid, distinct, distinct-all}
 use Rattle.description.proofs.Counting.{allSymbols}
 use Rattle.isw_gadget.specs.Pairs.{pairs, pairNumber}
-use Rattle.isw_gadget.proofs.Gadget.{above, below, part, line, isw}
-use Rattle.isw_gadget.proofs.Pairs.{pair-below, pair-onto}
+use Rattle.isw_gadget.proofs.Gadget.{part, line, isw}
+use Rattle.isw_gadget.proofs.Pairs.{pair-onto}
 use Rattle.isw_gadget.proofs.Sums.{sum, sum-constant, zero-plus, one-passes, nothing-passes, length-lists, mapped-length}
-use Rattle.isw_gadget.proofs.Lines.{by-share, above-is, below-is, line-symbols}
+use Rattle.isw_gadget.proofs.Lines.{above-is, below-is, line-symbols, lines-pass}
 
 -- ---- all products and masks
 
@@ -120,27 +120,10 @@ module _ (d : ℕ) (few : pairs d ≤ maxMasks) where
   abbrev once : Symbol → Bool
   once s = eqb (count (λ u. sameSymbol u s) (everySymbol d)) 1
 
-  product-is-once : (i j : ℕ) → i < d + 1 → j < d + 1 → once (Product i j) ≡ true
-  product-is-once i j h k = eq-eqb _ 1 (product-once d i j h k)
-
-  mask-is-once : (i j : ℕ) → i < j → j < d + 1 → once (Mask (pairNumber d i j)) ≡ true
-  mask-is-once i j h k = eq-eqb _ 1 (mask-once (pairNumber d i j) (pair-below d i j h (omega (arith, k))))
-
-  part-once : (i j : ℕ) → i < d + 1 → j < d + 1 → every once (symbols (part d i j)) ≡ true
-  part-once i j h k =
-      by-share (λ is. every once (symbols is) ≡ true) i j none (above d i j) (below d i j) refl
-      (λ l. and-both (once (Mask (pairNumber d i j))) true (mask-is-once i j l k) refl)
-      (λ l. and-both (once (Mask (pairNumber d j i))) (once (Product j i) && (once (Product i j) && true)) (mask-is-once j i l h)
-      (and-both (once (Product j i)) (once (Product i j) && true) (product-is-once j i k h)
-      (and-both (once (Product i j)) true (product-is-once i j h k) refl)))
-
   all-once : every once (allSymbols (isw d .lines)) ≡ true
   all-once =
-      fold-lists _&&_ true (λ b. refl) and-assoc once symbols (isw d .lines) ∙ fold-map _&&_ true (line d) (λ is. every once (symbols is)) (upTo (d + 1))
-      ∙ every-below (d + 1) (λ i. every once (symbols (line d i))) (λ i h. ap (every once) (line-symbols d i)
-      ∙ and-both (once (Product i i)) (every once (fold _++_ [] (λ j. symbols (part d i j)) (upTo (d + 1)))) (product-is-once i i h h)
-      (fold-lists _&&_ true (λ b. refl) and-assoc once (λ j. symbols (part d i j)) (upTo (d + 1))
-      ∙ every-below (d + 1) (λ j. every once (symbols (part d i j))) (λ j k. part-once i j h k)))
+      fold-lists _&&_ true (λ b. refl) and-assoc once symbols (isw d .lines)
+      ∙ lines-pass d once (λ i j h k. eq-eqb _ 1 (product-once d i j h k)) (λ k h. eq-eqb _ 1 (mask-once k h))
 
 -- ---- and each is used
 
