@@ -2,19 +2,18 @@
 --     Promise                          both promises of the entry
 --     order-low, order-high            an order that is not written
 --     text-short, text-written         a buffer that is too short, and one that is not
-use Prim.Native.Nat.{ℕ, _-_, _≤_, _<_}
+use Prim.Native.Nat.{ℕ, _≤_, _<_}
 use native.Mathlib.Omega.{arith}
 use mathlib.Core.Path.{_≡_, sym, _∙_, ap, ap₂}
 use mathlib.Core.Bool.{Bool, cond, _||_}
 use mathlib.Core.List.{List, [], _∷_, _++_}
 use borrow.Author.Tests.{lt-ltb, le-ltb}
 use lib.Dec.{ltb}
-use lib.ListN.{length, take, drop}
-use lib.Seq.{take-length}
+use lib.ListN.{length, drop}
 use Rattle.basics.specs.Told.{Lent, values, turnedDown}
 use Rattle.basics.proofs.Tests.{or-left, or-right}
 use Rattle.pages.specs.Page.{Wrote}
-use Rattle.pages.proofs.Writing.{part-start}
+use Rattle.pages.proofs.Writing.{copied, copied-start}
 use Rattle.isw_gadget.specs.Text.{iswText}
 use Rattle.isw_gadget.specs.Answers.{maxIswOrder, iswTold, iswWritten}
 use Rattle.isw_gadget.specs.Reads.{IswSays}
@@ -62,14 +61,11 @@ module _ (order : ℕ) (buffer : List ℕ) where
         (ap by-room (sym (lt-ltb (length buffer) (length (iswText order)) (omega (arith, h, size)))) ∙ right-order)
 
     pub text-written : (held : List ℕ) → end ≤ length buffer
-        → held ≡ take (length (take (end - 0) page)) (take (end - 0) page) ++ drop (length (take (end - 0) page)) buffer
+        → held ≡ copied page end buffer
         → Promise (IswAnswer.Written end) order buffer held
     text-written held h e =
-        let size : end ≡ length (iswText order) = omega (arith, wrote .end-is) in
-        let page-is : take (end - 0) page ≡ iswText order = part-start end page ∙ wrote .stands in
-        let held-is : held ≡ iswText order ++ drop (length (iswText order)) buffer =
-        e ∙ ap (λ (l : List ℕ). take (length l) l ++ drop (length l) buffer) page-is
-        ∙ ap (λ (l : List ℕ). l ++ drop (length (iswText order)) buffer) (take-length (iswText order)) in
+        let c = copied-start blank (iswText order) page end buffer held wrote e in
+        let size = c .0 in
         promised (IswAnswer.Written end) held
-        (ap₂ (λ (n : ℕ) (l : List ℕ). iswTold (IswAnswer.Written n) l) size held-is
+        (ap₂ (λ (n : ℕ) (l : List ℕ). iswTold (IswAnswer.Written n) l) size (c .1)
         ∙ ap by-room (sym (le-ltb (length buffer) (length (iswText order)) (omega (arith, h, size)))) ∙ right-order)
