@@ -26,7 +26,7 @@ use Rattle.description.proofs.Laying.{_then_}
 use Rattle.description.proofs.Events.{whole}
 use Rattle.description.proofs.Joining.{then-following, then-symbols, then-whole, then-shallow, names-member}
 use Rattle.isw_gadget.specs.Pairs.{pairs, pairNumber}
-use Rattle.isw_gadget.specs.Text.{maskOf, corrected, item, lineText, iswText}
+use Rattle.isw_gadget.specs.Text.{maskOf, item, lineText, iswText}
 use Rattle.isw_gadget.proofs.Gadget.{above, below, part, line, isw}
 use Rattle.isw_gadget.proofs.Pairs.{pair-below}
 
@@ -110,16 +110,16 @@ module _ (d : ℕ) where
   -- ---- its bytes
 
   part-printed : (i j : ℕ) → following (part d i j) ≡ cond (eqb j i) [] (bytes " " ++ item d i j)
-  part-printed i j = go (eqb j i) (ltb i j)
+  part-printed i j = go (eqb j i) refl (ltb i j) refl
     where
-      go : (a b : Bool)
-          → following (cond a none (cond b (above d i j) (below d i j))) ≡ cond a [] (bytes " " ++ cond b (maskOf d i j) (corrected d i j))
-      go true b = refl
-      go false true = ap {B = List ℕ} (λ l. bytes " " ++ l) (append-nil (maskOf d i j))
-      go false false =
-          ap {B = List ℕ} (λ l. bytes " ((" ++ l)
+      go : (a : Bool) → eqb j i ≡ a → (b : Bool) → ltb i j ≡ b → following (part d i j) ≡ cond (eqb j i) [] (bytes " " ++ item d i j)
+      go true e b f = simp e
+      go false e true f = simp (e, f, append-nil)
+      go false e false f =
+          simp (e, f)
+          (ap {B = List ℕ} (λ l. bytes " ((" ++ l)
           (ap (λ (l : List ℕ). l ++ bytes ")") (append-assoc (maskOf d j i) (bytes " " ++ spelling (Product j i)) (bytes ") " ++ spelling (Product i j)))
-          ∙ append-assoc (maskOf d j i) _ (bytes ")"))
+          ∙ append-assoc (maskOf d j i) _ (bytes ")")))
 
   line-printed : (i : ℕ) → printedLine (line d i) ≡ lineText d i
   line-printed i =
