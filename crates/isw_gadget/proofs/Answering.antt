@@ -1,4 +1,5 @@
 -- What is told of the text of an order: which call gets which number, and what an answer says.
+--     isw-chain                        the conditions are tested in their order
 --     isw-settled                      a refusal is told exactly when its condition is the first that holds, a length exactly when none does
 --     isw-numbers                      the numbers of the refusals
 --     answer-says                      whatever tells what the entry is to tell says what the request asks for
@@ -7,7 +8,7 @@ use Prim.Native.Nat.{ℕ, _+_, _*_, _≤_, _<_}
 use native.Mathlib.Omega.{arith}
 use mathlib.Core.Path.{_≡_, refl, sym, _∙_, ap, ap₂, subst}
 use mathlib.Core.Logic.{_⊎_, inl, inr}
-use mathlib.Core.List.{List, [], _∷_, _++_}
+use mathlib.Core.List.{List, [], _∷_}
 use lib.ListN.{length, length-append, take, drop}
 use lib.Seq.{take-append-seam, drop-append-seam}
 use Rattle.limits.specs.Limits.{recordBytes}
@@ -33,17 +34,20 @@ pub isw-numbers : (refusalNumber Refusal.OrderOutOfRange ≡ 23) × (refusalNumb
 isw-numbers = (refl, refl)
 
 module _ (order : ℕ) (buffer : List ℕ) where
-  abbrev shown : Lent
-  shown = record { told = values (length (iswText order) ∷ []); held = iswText order ++ drop (length (iswText order)) buffer }
+  -- the conditions are tested in their order; what is shown where none holds is read off the definition
+  abbrev pub isw-chain : (shown : Lent) × Chain (λ n. turnedDown n buffer) shown (iswConditions order buffer) (iswWritten order buffer)
+  isw-chain = (
+    _,
+    test 23 (one-of (less order 1) (less maxIswOrder order))
+        (test 24 (less (length buffer) (length (iswText order)))
+        (own (λ n. turnedDown n buffer) _)),
+  )
 
-  isw-chain : Chain (λ n. turnedDown n buffer) shown (iswConditions order buffer) (iswWritten order buffer)
-  isw-chain =
-      test 23 (one-of (less order 1) (less maxIswOrder order))
-      (test 24 (less (length buffer) (length (iswText order)))
-      (own (λ n. turnedDown n buffer) shown))
+  abbrev shown : Lent
+  shown = isw-chain .0
 
   pub isw-settled : SettlesLent (iswConditions order buffer) buffer (iswWritten order buffer)
-  isw-settled = settles-lent isw-chain (length (iswText order) ∷ []) refl
+  isw-settled = settles-lent (isw-chain .1) (length (iswText order) ∷ []) refl
 
   -- ---- what an answer says
 
@@ -57,7 +61,7 @@ module _ (order : ℕ) (buffer : List ℕ) where
     written-shown : (size : ℕ) → answer ≡ IswAnswer.Written size → (size ≡ length (iswText order)) × (held ≡ shown .held)
     written-shown size f =
         let same : iswTold (IswAnswer.Written size) held ≡ shown =
-        ap (λ (a : IswAnswer). iswTold a held) (sym f) ∙ e ∙ isw-chain .none (written-none size f) in
+        ap (λ (a : IswAnswer). iswTold a held) (sym f) ∙ e ∙ isw-chain .1 .none (written-none size f) in
         (first-value same, ap (λ (l : Lent). l .held) same)
       where
         first-value : iswTold (IswAnswer.Written size) held ≡ shown → size ≡ length (iswText order)

@@ -1,16 +1,18 @@
 -- The distinct symbols of the gadget: all products of two shares, each used once, and all masks, each used twice.
 --     everySymbol        all products and masks
 --     all-once           each symbol that is used is one of them, once
+--     amid-at            a symbol is one of a list in which it has a place
 --     all-used           each of them is used
 --     distinct-count     so there are as many distinct ones
-use Prim.Native.Nat.{ℕ, _+_, _*_, _≤_, _<_}
+use Prim.Native.Nat.{ℕ, zero, suc, _+_, _*_, _≤_, _<_}
+use native.Mathlib.Nat.{not-suc-le-zero, le-of-suc-le-suc}
 use native.Mathlib.Omega.{arith}
 use mathlib.Core.Path.{_≡_, refl, sym, _∙_, ap, ap₂}
 use mathlib.Core.Bool.{Bool, true, false, _&&_, _||_, or-assoc, and-assoc}
-use mathlib.Core.List.{List, [], _++_, map}
+use mathlib.Core.List.{List, [], _∷_, _++_, map}
 use borrow.Author.Tests.{ltb-true, ltb-false, eqb-true, le-leb, eq-eqb}
 use lib.Dec.{eqb, ltb}
-use lib.ListN.{length, length-append}
+use lib.ListN.{length, length-append, getD}
 use Rattle.limits.specs.Limits.{maxMasks}
 use Rattle.basics.specs.Folds.{fold, every, count, oneIf, upTo}
 use Rattle.basics.proofs.Tests.{and-both, or-left, or-right, bool-ext}
@@ -18,15 +20,15 @@ use Rattle.basics.proofs.Folds.{fold-map, fold-cong, fold-append, fold-lists, u
 use Rattle.wires.specs.declared.Symbol.{Symbol}
 use Rattle.wires.specs.declared.Symbol.the-variants.{Product, Mask}
 use Rattle.description.specs.Symbols.{maxMask, shareFigure}
-use Rattle.description.specs.Grammar.{none, symbols, sameSymbol}
+use Rattle.description.specs.Grammar.{Items, symbols, sameSymbol}
 use Rattle.description.proofs.Spelling.{same-spelled, spelled-same}
 use Rattle.description.proofs.Distinct.{amid, distinct, distinct-all}
 use Rattle.description.proofs.Counting.{allSymbols}
-use Rattle.isw_gadget.specs.Pairs.{pairs, pairNumber}
+use Rattle.isw_gadget.specs.Pairs.{pairs}
 use Rattle.isw_gadget.proofs.Gadget.{above, below, part, line, isw}
-use Rattle.isw_gadget.proofs.Pairs.{pair-below, pair-onto}
+use Rattle.isw_gadget.proofs.Pairs.{pair-onto}
 use Rattle.isw_gadget.proofs.Sums.{sum, sum-constant, zero-plus, one-passes, nothing-passes, length-lists, mapped-length}
-use Rattle.isw_gadget.proofs.Lines.{by-share, above-is, below-is, line-symbols}
+use Rattle.isw_gadget.proofs.Lines.{above-is, below-is, line-symbols, lines-pass}
 
 -- ---- all products and masks
 
@@ -120,29 +122,18 @@ module _ (d : ℕ) (few : pairs d ≤ maxMasks) where
   abbrev once : Symbol → Bool
   once s = eqb (count (λ u. sameSymbol u s) (everySymbol d)) 1
 
-  product-is-once : (i j : ℕ) → i < d + 1 → j < d + 1 → once (Product i j) ≡ true
-  product-is-once i j h k = eq-eqb _ 1 (product-once d i j h k)
-
-  mask-is-once : (i j : ℕ) → i < j → j < d + 1 → once (Mask (pairNumber d i j)) ≡ true
-  mask-is-once i j h k = eq-eqb _ 1 (mask-once (pairNumber d i j) (pair-below d i j h (omega (arith, k))))
-
-  part-once : (i j : ℕ) → i < d + 1 → j < d + 1 → every once (symbols (part d i j)) ≡ true
-  part-once i j h k =
-      by-share (λ is. every once (symbols is) ≡ true) i j none (above d i j) (below d i j) refl
-      (λ l. and-both (once (Mask (pairNumber d i j))) true (mask-is-once i j l k) refl)
-      (λ l. and-both (once (Mask (pairNumber d j i))) (once (Product j i) && (once (Product i j) && true)) (mask-is-once j i l h)
-      (and-both (once (Product j i)) (once (Product i j) && true) (product-is-once j i k h)
-      (and-both (once (Product i j)) true (product-is-once i j h k) refl)))
-
   all-once : every once (allSymbols (isw d .lines)) ≡ true
   all-once =
-      fold-lists _&&_ true (λ b. refl) and-assoc once symbols (isw d .lines) ∙ fold-map _&&_ true (line d) (λ is. every once (symbols is)) (upTo (d + 1))
-      ∙ every-below (d + 1) (λ i. every once (symbols (line d i))) (λ i h. ap (every once) (line-symbols d i)
-      ∙ and-both (once (Product i i)) (every once (fold _++_ [] (λ j. symbols (part d i j)) (upTo (d + 1)))) (product-is-once i i h h)
-      (fold-lists _&&_ true (λ b. refl) and-assoc once (λ j. symbols (part d i j)) (upTo (d + 1))
-      ∙ every-below (d + 1) (λ j. every once (symbols (part d i j))) (λ j k. part-once i j h k)))
+      fold-lists _&&_ true (λ b. refl) and-assoc once symbols (isw d .lines)
+      ∙ lines-pass d once (λ i j h k. eq-eqb _ 1 (product-once d i j h k)) (λ k h. eq-eqb _ 1 (mask-once k h))
 
 -- ---- and each is used
+
+-- a symbol is one of a list in which it has a place
+amid-at : (l : List Symbol) (k : ℕ) (s : Symbol) → k < length l → amid l (getD l k s) ≡ true
+amid-at [] k s h = absurd (not-suc-le-zero h)
+amid-at (u ∷ l) zero s h = or-left (sameSymbol u u) (amid l u) (spelled-same u u refl)
+amid-at (u ∷ l) (suc k) s h = or-right (sameSymbol (getD l k s) u) (amid l (getD l k s)) (amid-at l k s (le-of-suc-le-suc h))
 
 module _ (d : ℕ) where
   abbrev isUsed : Symbol → Bool
@@ -153,47 +144,32 @@ module _ (d : ℕ) where
       fold-lists _||_ false (λ b. refl) or-assoc (sameSymbol s) symbols (isw d .lines)
       ∙ fold-map _||_ false (line d) (λ is. amid (symbols is) s) (upTo (d + 1)) ∙ some-at (d + 1) i (λ i. amid (symbols (line d i)) s) h e
 
-  part-used : (s : Symbol) (i j : ℕ) → i < d + 1 → j < d + 1 → amid (symbols (part d i j)) s ≡ true → isUsed s ≡ true
-  part-used s i j h k e =
-      line-used s i h
-      (ap (λ (l : List Symbol). amid l s) (line-symbols d i)
-      ∙ or-right (sameSymbol s (Product i i)) (amid (fold _++_ [] (λ j. symbols (part d i j)) (upTo (d + 1))) s)
-      (fold-lists _||_ false (λ b. refl) or-assoc (sameSymbol s) (λ j. symbols (part d i j)) (upTo (d + 1))
-      ∙ some-at (d + 1) j (λ j. amid (symbols (part d i j)) s) k e))
+  -- the symbol at a place of what line i has for share j
+  part-used : (i j : ℕ) (is : Items) → part d i j ≡ is → i < d + 1 → j < d + 1 → (k : ℕ) (s : Symbol) → k < length (symbols is)
+      → isUsed (getD (symbols is) k s) ≡ true
+  part-used i j is e h g k s b =
+      let u = getD (symbols is) k s in
+      line-used u i h
+      (ap (λ (l : List Symbol). amid l u) (line-symbols d i)
+      ∙ or-right (sameSymbol u (Product i i)) (amid (fold _++_ [] (λ j. symbols (part d i j)) (upTo (d + 1))) u)
+      (fold-lists _||_ false (λ b. refl) or-assoc (sameSymbol u) (λ j. symbols (part d i j)) (upTo (d + 1))
+      ∙ some-at (d + 1) j (λ j. amid (symbols (part d i j)) u) g (ap (λ is. amid (symbols is) u) e ∙ amid-at (symbols is) k s b)))
 
-  itself : (s : Symbol) → sameSymbol s s ≡ true
-  itself s = spelled-same s s refl
-
-  -- the products of a pair stand in the line of its higher share
-  second-used : (i j : ℕ) → j < i → i < d + 1 → isUsed (Product j i) ≡ true
-  second-used i j h k =
-      part-used (Product j i) i j k (omega (arith, h, k))
-      (ap (λ is. amid (symbols is) (Product j i)) (below-is d i j h)
-      ∙ or-right (sameSymbol (Product j i) (Mask (pairNumber d j i))) (sameSymbol (Product j i) (Product j i) || (sameSymbol (Product j i) (Product i j) || false))
-      (or-left (sameSymbol (Product j i) (Product j i)) (sameSymbol (Product j i) (Product i j) || false) (itself (Product j i))))
-
-  third-used : (i j : ℕ) → j < i → i < d + 1 → isUsed (Product i j) ≡ true
-  third-used i j h k =
-      part-used (Product i j) i j k (omega (arith, h, k))
-      (ap (λ is. amid (symbols is) (Product i j)) (below-is d i j h)
-      ∙ or-right (sameSymbol (Product i j) (Mask (pairNumber d j i))) (sameSymbol (Product i j) (Product j i) || (sameSymbol (Product i j) (Product i j) || false))
-      (or-right (sameSymbol (Product i j) (Product j i)) (sameSymbol (Product i j) (Product i j) || false)
-      (or-left (sameSymbol (Product i j) (Product i j)) false (itself (Product i j)))))
+  -- the products of a pair stand in the line of its higher share, at places 1 and 2 of its part
+  pair-used : (i j k : ℕ) → j < i → i < d + 1 → k < 3 → isUsed (getD (symbols (below d i j)) k (Product i i)) ≡ true
+  pair-used i j k h g b = part-used i j (below d i j) (below-is d i j h) g (omega (arith, h, g)) k (Product i i) b
 
   product-used : (i j : ℕ) → i < d + 1 → j < d + 1 → isUsed (Product i j) ≡ true
   product-used i j h k = go (ltb i j) refl (ltb j i) refl
     where
       go : (a : Bool) → ltb i j ≡ a → (b : Bool) → ltb j i ≡ b → isUsed (Product i j) ≡ true
-      go true e b f = second-used j i (ltb-true i j e) k
-      go false e true f = third-used i j (ltb-true j i f) h
+      go true e b f = pair-used j i 1 (ltb-true i j e) k (omega arith)
+      go false e true f = pair-used i j 2 (ltb-true j i f) h (omega arith)
       go false e false f =
           let low = ltb-false i j e in
           let high = ltb-false j i f in
           let same : i ≡ j = omega (arith, low, high) in
-          ap (λ (l : ℕ). isUsed (Product i l)) (sym same)
-          ∙ line-used (Product i i) i h
-          (ap (λ (l : List Symbol). amid l (Product i i)) (line-symbols d i)
-          ∙ or-left (sameSymbol (Product i i) (Product i i)) (amid (fold _++_ [] (λ j. symbols (part d i j)) (upTo (d + 1))) (Product i i)) (itself (Product i i)))
+          ap (λ (l : ℕ). isUsed (Product i l)) (sym same) ∙ line-used (Product i i) i h (amid-at (symbols (line d i)) 0 (Product i i) (omega arith))
 
   mask-used : (k : ℕ) → k < pairs d → isUsed (Mask k) ≡ true
   mask-used k h =
@@ -201,10 +177,8 @@ module _ (d : ℕ) where
       let high = p .within in
       let low = p .ordered in
       ap (λ (l : ℕ). isUsed (Mask l)) (sym (p .numbered))
-      ∙ part-used (Mask (pairNumber d (p .first) (p .second))) (p .first) (p .second) (omega (arith, low, high)) (omega (arith, high))
-      (ap (λ is. amid (symbols is) (Mask (pairNumber d (p .first) (p .second)))) (above-is d (p .first) (p .second) low)
-      ∙ or-left (sameSymbol (Mask (pairNumber d (p .first) (p .second))) (Mask (pairNumber d (p .first) (p .second)))) false
-      (itself (Mask (pairNumber d (p .first) (p .second)))))
+      ∙ part-used (p .first) (p .second) (above d (p .first) (p .second)) (above-is d (p .first) (p .second) low) (omega (arith, low, high))
+      (omega (arith, high)) 0 (Mask k) (omega arith)
 
   all-used : every isUsed (everySymbol d) ≡ true
   all-used =

@@ -2,6 +2,7 @@
 --     by-share, above-is, below-is  a part is nothing, or one thing, or another
 --     line-symbols                  those of a line
 --     good-lines, shallow-lines     each line has items, no group is empty, two deep at most
+--     lines-pass                    a test that all products and masks pass, passes for its symbols
 --     known-lines                   its symbols are shares of the order and declared masks
 --     line-printed, isw-printed     its bytes are those of the text
 use Prim.Native.Nat.{ℕ, _+_, _≤_, _<_}
@@ -25,7 +26,7 @@ use Rattle.description.proofs.Laying.{_then_}
 use Rattle.description.proofs.Events.{whole}
 use Rattle.description.proofs.Joining.{then-following, then-symbols, then-whole, then-shallow, names-member}
 use Rattle.isw_gadget.specs.Pairs.{pairs, pairNumber}
-use Rattle.isw_gadget.specs.Text.{maskOf, corrected, item, lineText, iswText}
+use Rattle.isw_gadget.specs.Text.{maskOf, item, lineText, iswText}
 use Rattle.isw_gadget.proofs.Gadget.{above, below, part, line, isw}
 use Rattle.isw_gadget.proofs.Pairs.{pair-below}
 
@@ -34,7 +35,7 @@ every-line : (f : Items → Bool) (d : ℕ) → ((i : ℕ) → i < d + 1 → f (
 every-line f d h = fold-map _&&_ true (line d) f (upTo (d + 1)) ∙ every-below (d + 1) (λ i. f (line d i)) h
 
 -- for share j a line has nothing, one thing where j is above i, another where it is below
-pub by-share : {A : Type 0} (P : A → Type 0) (i j : ℕ) (own above below : A) → P own → (i < j → P above) → (j < i → P below)
+by-share : {A : Type 0} (P : A → Type 0) (i j : ℕ) (own above below : A) → P own → (i < j → P above) → (j < i → P below)
     → P (cond (eqb j i) own (cond (ltb i j) above below))
 by-share P i j own above below p q r = go (eqb j i) refl (ltb i j) refl
   where
@@ -77,46 +78,48 @@ module _ (d : ℕ) where
       (fold-keeps _then_ none (λ is. depth is ≤ maxDepth) (omega arith) (then-shallow maxDepth) (d + 1) (part d i)
       (λ j c. by-share (λ is. depth is ≤ maxDepth) i j none _ _ (omega arith) (λ h. omega arith) (λ h. omega arith))))
 
-  abbrev allowed : Symbol → Bool
-  allowed = known (d + 1) (upTo (pairs d))
+  -- a test that all products of two shares and all masks pass, passes for every symbol of every line
+  module _ (test : Symbol → Bool) (products : (i j : ℕ) → i < d + 1 → j < d + 1 → test (Product i j) ≡ true)
+      (masks : (k : ℕ) → k < pairs d → test (Mask k) ≡ true) where
+    pair-mask : (i j : ℕ) → i < j → j < d + 1 → test (Mask (pairNumber d i j)) ≡ true
+    pair-mask i j h k = masks (pairNumber d i j) (pair-below d i j h (omega (arith, k)))
 
-  product-known : (i j : ℕ) → i < d + 1 → j < d + 1 → allowed (Product i j) ≡ true
-  product-known i j h k = and-both (ltb i (d + 1)) (ltb j (d + 1)) (lt-ltb i (d + 1) h) (lt-ltb j (d + 1) k)
+    part-passes : (i j : ℕ) → i < d + 1 → j < d + 1 → every test (symbols (part d i j)) ≡ true
+    part-passes i j h k =
+        by-share (λ is. every test (symbols is) ≡ true) i j none _ _ refl
+        (λ l. and-both (test (Mask (pairNumber d i j))) true (pair-mask i j l k) refl)
+        (λ l. and-both (test (Mask (pairNumber d j i))) (test (Product j i) && (test (Product i j) && true)) (pair-mask j i l h)
+        (and-both (test (Product j i)) (test (Product i j) && true) (products j i k h)
+        (and-both (test (Product i j)) true (products i j h k) refl)))
 
-  mask-known : (i j : ℕ) → i < j → j < d + 1 → allowed (Mask (pairNumber d i j)) ≡ true
-  mask-known i j h k = names-member (pairs d) (pairNumber d i j) (pair-below d i j h (omega (arith, k)))
+    line-passes : (i : ℕ) → i < d + 1 → every test (symbols (line d i)) ≡ true
+    line-passes i h =
+        ap (every test) (line-symbols i)
+        ∙ and-both (test (Product i i)) (every test (fold _++_ [] (λ j. symbols (part d i j)) (upTo (d + 1)))) (products i i h h)
+        (fold-lists _&&_ true (λ b. refl) and-assoc test (λ j. symbols (part d i j)) (upTo (d + 1))
+        ∙ every-below (d + 1) (λ j. every test (symbols (part d i j))) (λ j k. part-passes i j h k))
 
-  pub part-known : (i j : ℕ) → i < d + 1 → j < d + 1 → every allowed (symbols (part d i j)) ≡ true
-  part-known i j h k =
-      by-share (λ is. every allowed (symbols is) ≡ true) i j none _ _ refl
-      (λ l. and-both (allowed (Mask (pairNumber d i j))) true (mask-known i j l k) refl)
-      (λ l. and-both (allowed (Mask (pairNumber d j i))) (allowed (Product j i) && (allowed (Product i j) && true)) (mask-known j i l h)
-      (and-both (allowed (Product j i)) (allowed (Product i j) && true) (product-known j i k h)
-      (and-both (allowed (Product i j)) true (product-known i j h k) refl)))
+    pub lines-pass : every (λ is. every test (symbols is)) (isw d .lines) ≡ true
+    lines-pass = every-line (λ is. every test (symbols is)) d line-passes
 
-  pub line-known : (i : ℕ) → i < d + 1 → every allowed (symbols (line d i)) ≡ true
-  line-known i b =
-      ap (every allowed) (line-symbols i)
-      ∙ and-both (allowed (Product i i)) (every allowed (fold _++_ [] (λ j. symbols (part d i j)) (upTo (d + 1)))) (product-known i i b b)
-      (fold-lists _&&_ true (λ c. refl) and-assoc allowed (λ j. symbols (part d i j)) (upTo (d + 1))
-      ∙ every-below (d + 1) (λ j. every allowed (symbols (part d i j))) (λ j c. part-known i j b c))
-
-  pub known-lines : every (λ is. every allowed (symbols is)) (isw d .lines) ≡ true
-  known-lines = every-line (λ is. every allowed (symbols is)) d line-known
+  pub known-lines : every (λ is. every (known (d + 1) (upTo (pairs d))) (symbols is)) (isw d .lines) ≡ true
+  known-lines =
+      lines-pass (known (d + 1) (upTo (pairs d)))
+      (λ i j h k. and-both (ltb i (d + 1)) (ltb j (d + 1)) (lt-ltb i (d + 1) h) (lt-ltb j (d + 1) k)) (names-member (pairs d))
 
   -- ---- its bytes
 
   part-printed : (i j : ℕ) → following (part d i j) ≡ cond (eqb j i) [] (bytes " " ++ item d i j)
-  part-printed i j = go (eqb j i) (ltb i j)
+  part-printed i j = go (eqb j i) refl (ltb i j) refl
     where
-      go : (a b : Bool)
-          → following (cond a none (cond b (above d i j) (below d i j))) ≡ cond a [] (bytes " " ++ cond b (maskOf d i j) (corrected d i j))
-      go true b = refl
-      go false true = ap {B = List ℕ} (λ l. bytes " " ++ l) (append-nil (maskOf d i j))
-      go false false =
-          ap {B = List ℕ} (λ l. bytes " ((" ++ l)
+      go : (a : Bool) → eqb j i ≡ a → (b : Bool) → ltb i j ≡ b → following (part d i j) ≡ cond (eqb j i) [] (bytes " " ++ item d i j)
+      go true e b f = simp e
+      go false e true f = simp (e, f, append-nil)
+      go false e false f =
+          simp (e, f)
+          (ap {B = List ℕ} (λ l. bytes " ((" ++ l)
           (ap (λ (l : List ℕ). l ++ bytes ")") (append-assoc (maskOf d j i) (bytes " " ++ spelling (Product j i)) (bytes ") " ++ spelling (Product i j)))
-          ∙ append-assoc (maskOf d j i) _ (bytes ")"))
+          ∙ append-assoc (maskOf d j i) _ (bytes ")")))
 
   line-printed : (i : ℕ) → printedLine (line d i) ≡ lineText d i
   line-printed i =

@@ -3,7 +3,7 @@
 --     masks-of-7                    at order 7 the masks of the first and of the last pair
 --     lengths, wire-counts          how long the seven texts are, and how many wires they have
 --     told-by-length, told-by-order      what is told of buffers and orders
-use Prim.Native.Nat.{_+_, _^_}
+use Prim.Native.Nat.{_^_}
 use mathlib.Core.Path.{_≡_, refl}
 use mathlib.Core.List.{[], _∷_, _++_, map}
 use lib.ListN.{length, replicate}

@@ -1,26 +1,21 @@
 -- The entry's answers, each with the whole of its promise.
 --     Promise                          both promises of the entry
---     order-low, order-high            an order that is not written
+--     order-wrong                      an order that is not written
 --     text-short, text-written         a buffer that is too short, and one that is not
-use Prim.Native.Nat.{ℕ, _-_, _≤_, _<_}
+use Prim.Native.Nat.{ℕ, _≤_, _<_}
 use native.Mathlib.Omega.{arith}
-use mathlib.Core.Path.{_≡_, sym, _∙_, ap, ap₂}
-use mathlib.Core.Bool.{Bool, cond, _||_}
-use mathlib.Core.List.{List, [], _∷_, _++_}
-use borrow.Author.Tests.{lt-ltb, le-ltb}
-use lib.Dec.{ltb}
-use lib.ListN.{length, take, drop}
-use lib.Seq.{take-length}
-use Rattle.basics.specs.Told.{Lent, values, turnedDown}
-use Rattle.basics.proofs.Tests.{or-left, or-right}
+use mathlib.Core.Path.{_≡_, refl, sym, _∙_, ap₂}
+use mathlib.Core.Logic.{_⊎_, inl, inr, ⊎-elim}
+use mathlib.Core.List.{List}
+use lib.ListN.{length}
 use Rattle.pages.specs.Page.{Wrote}
-use Rattle.pages.proofs.Writing.{part-start}
+use Rattle.pages.proofs.Writing.{copied, copied-start}
 use Rattle.isw_gadget.specs.Text.{iswText}
 use Rattle.isw_gadget.specs.Answers.{maxIswOrder, iswTold, iswWritten}
 use Rattle.isw_gadget.specs.Reads.{IswSays}
 use Rattle.isw_gadget.specs.declared.Refusal.{Refusal}
 use Rattle.isw_gadget.specs.declared.IswAnswer.{IswAnswer}
-use Rattle.isw_gadget.proofs.Answering.{answer-says}
+use Rattle.isw_gadget.proofs.Answering.{isw-chain, answer-says}
 
 abbrev pub Promise : IswAnswer → ℕ → List ℕ → List ℕ → Type 0
 Promise answer order buffer held = (iswTold answer held ≡ iswWritten order buffer) × IswSays answer order buffer held
@@ -29,47 +24,23 @@ module _ (order : ℕ) (buffer : List ℕ) where
   promised : (answer : IswAnswer) (held : List ℕ) → iswTold answer held ≡ iswWritten order buffer → Promise answer order buffer held
   promised answer held e = (e, answer-says order buffer answer held e)
 
-  -- the tests of the order, then that of the buffer
-  abbrev by-order : Bool → Lent
-  by-order wrong =
-      cond wrong (turnedDown 23 buffer)
-      (cond (ltb (length buffer) (length (iswText order))) (turnedDown 24 buffer)
-      (record { told = values (length (iswText order) ∷ []); held = iswText order ++ drop (length (iswText order)) buffer }))
-
-  abbrev by-room : Bool → Lent
-  by-room short =
-      cond short (turnedDown 24 buffer)
-      (record { told = values (length (iswText order) ∷ []); held = iswText order ++ drop (length (iswText order)) buffer })
-
-  pub order-low : order < 1 → Promise (IswAnswer.Refused Refusal.OrderOutOfRange) order buffer buffer
-  order-low h =
-      promised (IswAnswer.Refused Refusal.OrderOutOfRange) buffer
-      (ap by-order (sym (or-left (ltb order 1) (ltb maxIswOrder order) (lt-ltb order 1 h))))
-
-  pub order-high : maxIswOrder < order → Promise (IswAnswer.Refused Refusal.OrderOutOfRange) order buffer buffer
-  order-high h =
-      promised (IswAnswer.Refused Refusal.OrderOutOfRange) buffer
-      (ap by-order (sym (or-right (ltb order 1) (ltb maxIswOrder order) (lt-ltb maxIswOrder order h))))
+  pub order-wrong : (order < 1) ⊎ (maxIswOrder < order) → Promise (IswAnswer.Refused Refusal.OrderOutOfRange) order buffer buffer
+  order-wrong h = promised (IswAnswer.Refused Refusal.OrderOutOfRange) buffer (sym (isw-chain order buffer .1 .first 23 (inl (h, refl))))
 
   module _ (low : 1 ≤ order) (high : order ≤ maxIswOrder) (blank page : List ℕ) (end : ℕ) (wrote : Wrote blank 0 (iswText order) page end) where
-    right-order : by-room (ltb (length buffer) (length (iswText order))) ≡ iswWritten order buffer
-    right-order = ap by-order (sym (ap₂ _||_ (le-ltb order 1 low) (le-ltb maxIswOrder order high)))
+    right-order : (order < 1) ⊎ (maxIswOrder < order) → ⊥
+    right-order = ⊎-elim (λ h. omega (arith, low, h)) (λ h. omega (arith, high, h))
 
     pub text-short : length buffer < end → Promise (IswAnswer.Refused Refusal.TextDoesNotFit) order buffer buffer
     text-short h =
         let size = wrote .end-is in
         promised (IswAnswer.Refused Refusal.TextDoesNotFit) buffer
-        (ap by-room (sym (lt-ltb (length buffer) (length (iswText order)) (omega (arith, h, size)))) ∙ right-order)
+        (sym (isw-chain order buffer .1 .first 24 (inr (right-order, inl (omega (arith, h, size), refl)))))
 
-    pub text-written : (held : List ℕ) → end ≤ length buffer
-        → held ≡ take (length (take (end - 0) page)) (take (end - 0) page) ++ drop (length (take (end - 0) page)) buffer
-        → Promise (IswAnswer.Written end) order buffer held
+    pub text-written : (held : List ℕ) → end ≤ length buffer → held ≡ copied page end buffer → Promise (IswAnswer.Written end) order buffer held
     text-written held h e =
-        let size : end ≡ length (iswText order) = omega (arith, wrote .end-is) in
-        let page-is : take (end - 0) page ≡ iswText order = part-start end page ∙ wrote .stands in
-        let held-is : held ≡ iswText order ++ drop (length (iswText order)) buffer =
-        e ∙ ap (λ (l : List ℕ). take (length l) l ++ drop (length l) buffer) page-is
-        ∙ ap (λ (l : List ℕ). l ++ drop (length (iswText order)) buffer) (take-length (iswText order)) in
+        let c = copied-start blank (iswText order) page end buffer held wrote e in
+        let size = c .0 in
         promised (IswAnswer.Written end) held
-        (ap₂ (λ (n : ℕ) (l : List ℕ). iswTold (IswAnswer.Written n) l) size held-is
-        ∙ ap by-room (sym (le-ltb (length buffer) (length (iswText order)) (omega (arith, h, size)))) ∙ right-order)
+        (ap₂ (λ (n : ℕ) (l : List ℕ). iswTold (IswAnswer.Written n) l) size (c .1)
+        ∙ sym (isw-chain order buffer .1 .none (right-order, (λ short. omega (arith, h, size, short), tt))))

@@ -4,6 +4,7 @@
 --     wrote-nothing     nothing is written
 --     wrote-after       a run of bytes, then another
 --     wrote-copied      bytes copied to the page from the place on
+--     copied, copied-start      a page copied to a buffer, at whose start then stands what was written to the page
 --     wrote-byte        one byte
 --     wrote-low, wrote-more     the digits of a number below ten; of any other, after those of a tenth of it
 --     room-low, room-more       there is room for the last digit, and for those before it
@@ -66,6 +67,19 @@ wrote-copied page at text part room e =
       stands = ap (take (at + n)) whole ∙ take-at (start ++ text) (drop (at + n) page) (at + n) size;
       rest = ap (drop (at + n)) whole ∙ drop-at (start ++ text) (drop (at + n) page) (at + n) size;
     }
+
+-- what a buffer holds after `bytes::copy` of the page up to its end
+abbrev pub copied : List ℕ → ℕ → List ℕ → List ℕ
+copied page end buffer = take (length (take (end - 0) page)) (take (end - 0) page) ++ drop (length (take (end - 0) page)) buffer
+
+-- what was written to the page stands at the buffer's start, and what lies past it is as it was
+pub copied-start : (blank text page : List ℕ) (end : ℕ) (buffer held : List ℕ) → Wrote blank 0 text page end → held ≡ copied page end buffer
+    → (end ≡ length text) × (held ≡ text ++ drop (length text) buffer)
+copied-start blank text page end buffer held w e = (
+  omega (arith, w .end-is),
+  e ∙ ap (λ (l : List ℕ). take (length l) l ++ drop (length l) buffer) (part-start end page ∙ w .stands)
+      ∙ ap (λ (l : List ℕ). l ++ drop (length text) buffer) (take-length text),
+)
 
 pub wrote-byte : (page : List ℕ) (at byte : ℕ) → at < length page → Wrote page at (byte ∷ []) (set page at byte) (at + 1)
 wrote-byte page at byte room =

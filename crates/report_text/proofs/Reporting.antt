@@ -4,13 +4,12 @@
 --     refused-reported, read-reported              the report on a text that is turned down, and on one that was read
 --     report-short, report-written                 a buffer that is too short, and one that is not
 --     room-refused, room-written                   a report of at most 512 bytes, refused and written
-use Prim.Native.Nat.{ℕ, _+_, _*_, _-_, _≤_, _<_}
+use Prim.Native.Nat.{ℕ, _*_, _-_, _≤_, _<_}
 use native.Mathlib.Omega.{arith}
 use mathlib.Core.Path.{_≡_, refl, sym, _∙_, ap, ap₂, subst}
 use mathlib.Core.Bool.{Bool, cond}
-use mathlib.Core.List.{List, [], _∷_, _++_}
-use lib.ListN.{length, take, drop}
-use lib.Seq.{take-length}
+use mathlib.Core.List.{List, [], _∷_}
+use lib.ListN.{length, take}
 use borrow.Author.Tests.{lt-ltb, le-ltb}
 use Rattle.limits.specs.Limits.{recordBytes}
 use Rattle.basics.specs.Told.{Lent, values, turnedDown}
@@ -35,7 +34,7 @@ use Rattle.report_text.specs.Report.{
   maxReport,
   RoomEnough,
 }
-use Rattle.pages.proofs.Writing.{part-start, wrote-after}
+use Rattle.pages.proofs.Writing.{part-start, wrote-after, copied, copied-start}
 
 -- ---- what was read
 
@@ -82,15 +81,12 @@ module _ (text buffer blank page : List ℕ) (end : ℕ) (wrote : Wrote blank 0 
       (sym (lt-ltb (length buffer) (length (report text)) (omega (arith, h, size))))
 
   pub report-written : (held : List ℕ) → end ≤ length buffer
-      → held ≡ take (length (take (end - 0) page)) (take (end - 0) page) ++ drop (length (take (end - 0) page)) buffer
+      → held ≡ copied page end buffer
       → record { told = values (end ∷ []); held = held } ≡ reportText text buffer
   report-written held h e =
-      let size : end ≡ length (report text) = omega (arith, wrote .end-is) in
-      let page-is : take (end - 0) page ≡ report text = part-start end page ∙ wrote .stands in
-      let held-is : held ≡ verdicts.written (report text) buffer =
-      e ∙ ap (λ (l : List ℕ). take (length l) l ++ drop (length l) buffer) page-is
-      ∙ ap (λ (l : List ℕ). l ++ drop (length (report text)) buffer) (take-length (report text)) in
-      ap₂ (λ (n : ℕ) (l : List ℕ). record { told = values (n ∷ []); held = l }) size held-is
+      let c = copied-start blank (report text) page end buffer held wrote e in
+      let size = c .0 in
+      ap₂ (λ (n : ℕ) (l : List ℕ). record { told = values (n ∷ []); held = l }) size (c .1)
       ∙ ap (λ (b : Bool). cond b (turnedDown 16 buffer) (shown (report text) buffer))
       (sym (le-ltb (length buffer) (length (report text)) (omega (arith, h, size))))
 

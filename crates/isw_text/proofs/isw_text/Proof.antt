@@ -1,15 +1,16 @@
 -- `isw_text::isw_text` meets its contract: the text is written to the code's own page, and copied where it fits.
 -- Assumes nothing.
-use Rattle.isw_text.proofs.Answering.{order-low, order-high, text-short, text-written}
+use Rattle.isw_text.proofs.Answering.{order-wrong, text-short, text-written}
+use mathlib.Core.Logic.{inl, inr}
 use borrow.Author.Needs.{needs}
 use Rattle.isw_text.proofs.isw_text.Statement.{statement}
 use Rattle.isw_text.proofs.isw_text.Tie as tie
 
 returns : tie.Need-returns
-returns c = let a = c .before .before .args in order-low (a .order) (a .text .now) (c .if1 .taken)
+returns c = let a = c .before .before .args in order-wrong (a .order) (a .text .now) (inl (c .if1 .taken))
 
 returns-2 : tie.Need-returns-2
-returns-2 c = let a = c .before .before .before .args in order-high (a .order) (a .text .now) (c .if2 .taken)
+returns-2 c = let a = c .before .before .before .args in order-wrong (a .order) (a .text .now) (inr (c .if2 .taken))
 
 slice-aggregate-whole-text : tie.Need-slice-aggregate-whole-text
 slice-aggregate-whole-text c = search needs
