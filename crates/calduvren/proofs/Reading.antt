@@ -1,9 +1,10 @@
 -- The paths of the operations on a text: what each tells, and what its numbers mean, from what the entry promises of the answer.
+--     read-number              the numbers of reading's refusals
 --     read-past, read-kept     nothing past the last record is written; a refused text leaves the table as it was
 --     read-gave, read-refused
 --     part-gave, part-refused
 --     report-gave, report-refused
-use Prim.Native.Nat.{ℕ, _+_, _*_, _<_}
+use Prim.Native.Nat.{ℕ, _+_, _*_, _≤_, _<_}
 use native.Mathlib.Omega.{arith}
 use mathlib.Core.Path.{_≡_, refl, sym, _∙_, ap, ap₂}
 use mathlib.Core.Bool.{Bool, true, false, cond}
@@ -34,19 +35,20 @@ use Rattle.verdict_answers.specs.Answers.{written}
 use Rattle.verdict_answers.proofs.Accepting.{written-front, written-rest}
 use Rattle.calduvren.proofs.Answering.{Numbers, numbers-gave, numbers-refused, lent-refused, kept-0}
 
--- a refusal's number is not 0, so status 0 is no refusal
-read-positive : (why : Refusal) → 0 < refusalNumber why
-read-positive Refusal.TextTooLong = omega arith
-read-positive Refusal.WrongOrderLine = omega arith
-read-positive Refusal.WrongMasksLine = omega arith
-read-positive Refusal.NoSuchSymbol = omega arith
-read-positive Refusal.MaskNotDeclared = omega arith
-read-positive Refusal.WrongParenthesis = omega arith
-read-positive Refusal.Bar = omega arith
-read-positive Refusal.NestedTooDeep = omega arith
-read-positive Refusal.WrongLineCount = omega arith
-read-positive Refusal.TooManyWires = omega arith
+-- a refusal of reading has a number from 1 to 10, so it is neither status 0 nor 16
+pub read-number : (why : Refusal) → (0 < refusalNumber why) × (refusalNumber why ≤ 10)
+read-number Refusal.TextTooLong = (omega arith, omega arith)
+read-number Refusal.WrongOrderLine = (omega arith, omega arith)
+read-number Refusal.WrongMasksLine = (omega arith, omega arith)
+read-number Refusal.NoSuchSymbol = (omega arith, omega arith)
+read-number Refusal.MaskNotDeclared = (omega arith, omega arith)
+read-number Refusal.WrongParenthesis = (omega arith, omega arith)
+read-number Refusal.Bar = (omega arith, omega arith)
+read-number Refusal.NestedTooDeep = (omega arith, omega arith)
+read-number Refusal.WrongLineCount = (omega arith, omega arith)
+read-number Refusal.TooManyWires = (omega arith, omega arith)
 
+-- a refusal's number is not 0, so status 0 is no refusal
 report-positive : (why : report-refusal.Refusal) → 0 < report.refusalNumber why
 report-positive report-refusal.Refusal.BufferTooShort = omega arith
 
@@ -126,7 +128,7 @@ module _ (text table held : List ℕ) where
     pub read-refused : (why : Refusal) (offset status : ℕ) → answer ≡ ReadAnswer.Refused why offset → status ≡ refusalNumber why
         → ReadPromise status order-before shares-before masks-before wires-before offset before offset-before
     read-refused why offset status e s =
-        let positive = read-positive why in
+        let positive = read-number why .0 in
         let tells = ap (λ (a : ReadAnswer). readTold a held) (sym e) ∙ told in (
           ap (λ (n : ℕ). got n (order-before ∷ shares-before ∷ masks-before ∷ wires-before ∷ offset ∷ []) held) s
               ∙ ap (λ (a : ReadLent). lentRead a before offset-before) tells,

@@ -6,11 +6,17 @@
 --     judged           whether no set breaks, 1 or 0, put before what is told of a set that does
 --     lentJudged       the same where a buffer is lent
 --     readAnswered     what reading tells: four values, or the number of the refusal and its place in the text
+--     sizeAnswered     what the size of a check tells: five values and the numbers of sets, or the number of the refusal, with reading's its place in the text
 use Prim.Native.Nat.{ℕ}
+use mathlib.Core.Bool.{cond}
 use mathlib.Core.List.{List, [], _∷_, _++_}
+use lib.Dec.{ltb}
+use lib.ListN.{length, take}
 use Rattle.basics.specs.Told.{Told, Lent, values, refusal}
 use Rattle.verdict_answers.specs.Answers.{written}
 use Rattle.reader.specs.Answers.{ReadTold, gives, refused, ReadLent}
+use Rattle.plan_text.specs.Answers as plan
+use Rattle.plan_text.specs.Answers.{SizeTold, Sized, figures}
 
 pub record Called : Type 0 where
   pub status : ℕ
@@ -43,3 +49,15 @@ readAnswered (refused number place) numbers offset held = got number (numbers ++
 
 abbrev pub lentRead : ReadLent → List ℕ → ℕ → Called
 lentRead lent numbers offset = readAnswered (lent .told) numbers offset (lent .held)
+
+-- order, shares, masks, wires and bytes stand before the offset, the numbers of sets of the sizes up to the order at the buffer's start; 16, after
+-- reading's own refusals, where the buffer is too short for them, alters nothing
+abbrev pub figuresAnswered : SizeTold → List ℕ → List ℕ → ℕ → List ℕ → Called
+figuresAnswered (figures order shares masks wires bytes) counts numbers offset buffer =
+    cond (ltb (length buffer) order)
+    (got 16 (numbers ++ offset ∷ []) buffer)
+    (got 0 (order ∷ shares ∷ masks ∷ wires ∷ bytes ∷ offset ∷ []) (written (take order counts) buffer))
+figuresAnswered (plan.refused number place) counts numbers offset buffer = got number (numbers ++ place ∷ []) buffer
+
+abbrev pub sizeAnswered : Sized → List ℕ → ℕ → List ℕ → Called
+sizeAnswered size = figuresAnswered (size .told) (size .sets)

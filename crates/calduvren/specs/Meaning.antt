@@ -12,6 +12,7 @@
 --     DependenceSays    on how many shares a set depends, how many it is allowed, and whether a mask is left; whether it breaks the notion
 --     ReadSays          a text is read exactly when it spells a description within the limits, into just that description's wires
 --     PartSays          the part lies within the text, and is the one that the engine returns
+--     CheckSizeSays     the figures are reading's and the numbers of sets the set count's; a text that reading turns down gets its number and offset
 --     ReportSays        the report stands at the buffer's start; it is never longer than 512 bytes, and a buffer of as many is never refused
 --     IswTextSays       the text of the order stands at the buffer's start, spells ISW, is read and computes the product; a buffer of 4,096 bytes is never too short
 use Prim.Native.Nat.{ℕ, suc, _+_, _*_, _≤_, _<_}
@@ -21,7 +22,7 @@ use mathlib.Core.Bool.{true, false}
 use mathlib.Core.List.{List, [], map}
 use lib.Dec.{eqb}
 use lib.ListN.{length, take, drop}
-use Rattle.limits.specs.Limits.{recordBytes}
+use Rattle.limits.specs.Limits.{recordBytes, maxTableBytes}
 use Rattle.basics.specs.Told.{values}
 use Rattle.wires.specs.Function.{AddUpTo}
 use Rattle.wires.specs.Dependence.{SetDepends}
@@ -37,6 +38,7 @@ use Rattle.verdict_answers.specs.First.{FirstBreaking, FirstInRange}
 use Rattle.description.specs.Grammar.{Description, Spells}
 use Rattle.reader.specs.Answers.{textPart}
 use Rattle.reader.specs.Reads.{Readable, Given}
+use Rattle.plan_text.specs.Says.{Figures, Refuses}
 use Rattle.report_text.specs.Report.{report, maxReport}
 use Rattle.description.specs.Run.{maxText}
 use Rattle.isw_gadget.specs.Text.{iswText}
@@ -113,6 +115,14 @@ pub record ReadSays (status order shares masks wires : ℕ) (text table held : L
 pub record PartSays (status offset size : ℕ) (text table : List ℕ) (wire : ℕ) : Type 0 where
   pub inside : status ≡ 0 → offset + size ≤ length text
   pub part : status ≡ 0 → take size (drop offset text) ≡ textPart text table wire
+
+-- 16 where the text can be read and the buffer has no room for its order's sizes
+pub record CheckSizeSays (status order shares masks wires bytes offset : ℕ) (text buffer held : List ℕ) : Type 0 where
+  pub figures : status ≡ 0 → Figures text held order shares masks wires bytes
+  -- nothing past the order's sizes is written
+  pub past-kept : status ≡ 0 → drop order held ≡ drop order buffer
+  pub refuses : (status ≡ 0 → ⊥) → (status ≡ 16 → ⊥) → Refuses text status offset
+  pub short-exactly : (status ≡ 16) ↔ ((r : Readable text maxTableBytes) × (length buffer < r .description .order))
 
 pub record ReportSays (status size : ℕ) (text buffer held : List ℕ) : Type 0 where
   pub written : status ≡ 0 → (take size held ≡ report text) × (drop size held ≡ drop size buffer)

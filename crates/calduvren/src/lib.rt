@@ -1,4 +1,4 @@
-// The engine for callers in C: twelve entries of the crates below as exported functions on numbers and slices (`include/calduvren.h`). A call
+// The engine for callers in C: thirteen entries of the crates below as exported functions on numbers and slices (`include/calduvren.h`). A call
 // returns a status, 0 or the scope's number of the refusal, and gives its values through lent numbers. Every argument may be anything its type
 // holds; a refusal alters nothing that is lent, but for the offset at which reading refuses a text.
 pub mod numbering;

@@ -1,6 +1,6 @@
 -- The numbers of sets beside the answer.
 --     counts-length, counted-length     there is one for each size up to the order; with the rest, one for each size up to the highest order
---     counted-at, counted-rest          of size k at k - 1; above the order, 0
+--     counts-at, counted-at, counted-rest     of size k at k - 1; above the order, 0
 --     counted-front                     those up to the order
 --     counted-none, counted-more        none, and one size more
 use Prim.Native.Nat.{ℕ, zero, suc, _+_, _-_, _≤_, _<_}
@@ -29,7 +29,7 @@ module _ (wires : ℕ) where
         low,
       )
 
-  counts-at : (order k : ℕ) → k < order → getD (setCounts wires order) k 0 ≡ binom wires (suc k)
+  pub counts-at : (order k : ℕ) → k < order → getD (setCounts wires order) k 0 ≡ binom wires (suc k)
   counts-at zero k h = absurd (omega (arith, h))
   counts-at (suc n) k h = go (split k n h) (counts-at n k)
     where

@@ -1,20 +1,24 @@
 -- The words of `SizeSays` fix the answer: whatever they are true of tells what the definition tells.
 --     says-once     two answers of which they are true tell the same
 --     says-told     they are true of nothing but what the definition tells
+--     never-ten     10 is for a description of over 512 wires alone
 use Prim.Native.Nat.{ℕ, suc, _+_, _-_, _*_, _≤_, _<_}
 use native.Mathlib.Omega.{arith}
-use mathlib.Core.Path.{_≡_, refl, sym, _∙_, ap, ap₂}
+use mathlib.Core.Path.{_≡_, refl, sym, _∙_, ap, ap₂, subst}
 use mathlib.Core.Bool.{Bool, true, false}
 use mathlib.Core.List.{List, [], _∷_}
 use borrow.Author.Tests.{ltb-true, ltb-false}
 use lib.Dec.{ltb}
 use lib.ListN.{length, getD, replicate, length-replicate}
 use lib.Seq.{ext-getD}
-use Rattle.limits.specs.Limits.{maxOrder, recordBytes}
+use Rattle.limits.specs.Limits.{maxOrder, maxWires, recordBytes}
 use Rattle.basics.specs.Told.{values}
 use Rattle.sets.specs.Answers.{setCount}
 use Rattle.description.specs.Run.{Reading, read, turnedDown, reading, refusalNumber}
-use Rattle.description.proofs.Exactly.{read-spelled}
+use Rattle.description.specs.Grammar.{Description, Spells, wiresOf, maskCount}
+use Rattle.description.specs.declared.Listed.{Listed}
+use Rattle.description.specs.declared.Refusal.{Refusal}
+use Rattle.description.proofs.Exactly.{spelled-read, read-spelled, spelled-limits}
 use Rattle.reader.specs.Answers.{gives, tableless}
 use Rattle.reader.proofs.Telling.{tableless-read}
 use Rattle.plan_text.specs.Answers.{SizeTold, figures, refused, sizeTold, sizeOf, checkSize, counted}
@@ -115,3 +119,14 @@ module _ (text : List ℕ) where
           says-once a (SizeAnswer.Size order (order + 1) masks (length ws) (recordBytes * length ws)) s (counted (length ws) order) says
           (read-says text order masks ws (r .0) (r .1) low)
           ∙ ap sizeOf (sym e)
+
+  -- "10 here only for over 512 wires": a description of at most as many is never refused with it
+  pub never-ten : (why : Refusal) (offset : ℕ) (s : List ℕ) → SizeSays (SizeAnswer.Refused why offset) s text → refusalNumber why ≡ 10
+      → (d : Description) → Spells text d → maxWires < length (wiresOf d)
+  never-ten why offset s says ten d spells =
+      let o = says .0 .ten .0 ten in
+      let e = spelled-read text (o .description) (o .spells) (o .limits) in
+      let limits = spelled-limits text (o .description .order) (maskCount (o .description .names)) (wiresOf (o .description)) e d spells in
+      let both = sym e ∙ spelled-read text d spells limits in
+      let same : wiresOf (o .description) ≡ wiresOf d = cc in
+      subst (λ (l : List Listed). maxWires < length l) same (o .many)

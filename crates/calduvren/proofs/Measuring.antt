@@ -1,0 +1,193 @@
+-- The paths of the function that tells the size of a check: what each tells, and what its numbers mean, from what the entry promises of the answer.
+--     size-low                                   there is a number of sets for each size up to the order
+--     size-gave, size-short, size-refused
+--     size-read, size-too-short, size-count, size-turned-down     what a caller has of it: reading and the set count give him the same numbers
+--     size-room, size-buffer                     when 16 is not given; what the buffer then holds
+use Prim.Native.Nat.{ℕ, suc, _+_, _-_, _≤_, _<_}
+use native.Mathlib.Omega.{arith}
+use mathlib.Core.Path.{_≡_, refl, sym, _∙_, ap, ap₂, subst}
+use mathlib.Core.Bool.{Bool, cond}
+use mathlib.Core.List.{List, [], _∷_, _++_}
+use borrow.Author.Tests.{lt-ltb, le-ltb}
+use lib.ListN.{length, getD, take, drop, take-append-drop}
+use lib.Seq.{take-at, drop-at, length-take-le, getD-take, ext-getD}
+use Rattle.limits.specs.Limits.{maxOrder, maxWires, maxSize, maxTableBytes}
+use Rattle.basics.specs.Told.{Told, values}
+use Rattle.description.specs.declared.Refusal.{Refusal}
+use Rattle.description.specs.Run.{refusalNumber}
+use Rattle.counts.specs.Counts.{binom}
+use Rattle.sets.specs.Answers.{setCount}
+use Rattle.reader.specs.Answers.{ReadTold, readText}
+use Rattle.reader.specs.Reads.{Readable}
+use Rattle.verdict_answers.specs.Answers.{written}
+use Rattle.plan_text.specs.declared.SizeAnswer.{SizeAnswer}
+use Rattle.plan_text.specs.declared.CheckSize.{CheckSize}
+use Rattle.plan_text.specs.Answers.{Sized, figures, answerTold, sizeTold, setCounts, checkSize}
+use Rattle.plan_text.specs.Says.{Refuses, SizeSays}
+use Rattle.plan_text.proofs.Counting.{counts-length, counts-at}
+use Rattle.plan_text.proofs.Sizing.{spelled-figures, figures-spelled}
+use Rattle.calduvren.specs.Calls.{Called, got, answered, readAnswered, lentRead, figuresAnswered, sizeAnswered}
+use Rattle.calduvren.specs.Meaning.{Kept, CheckSizeSays}
+use Rattle.calduvren.proofs.Answering.{kept-0}
+use Rattle.calduvren.proofs.Reading.{read-number}
+
+module _ (text buffer : List ℕ) where
+  abbrev SizePromise : ℕ → ℕ → ℕ → ℕ → ℕ → ℕ → ℕ → List ℕ → List ℕ → ℕ → Type 0
+  SizePromise status order shares masks wires bytes offset held before offset-before =
+      (got status (order ∷ shares ∷ masks ∷ wires ∷ bytes ∷ offset ∷ []) held ≡ sizeAnswered (checkSize text) before offset-before buffer)
+      × (Kept status (order ∷ shares ∷ masks ∷ wires ∷ bytes ∷ []) before held buffer
+      × CheckSizeSays status order shares masks wires bytes offset text buffer held)
+
+  module _ (size : CheckSize) (told : sizeTold size ≡ checkSize text) (says : SizeSays (size .answer) (size .sets) text)
+      (order-before shares-before masks-before wires-before bytes-before offset-before : ℕ) where
+    abbrev before : List ℕ
+    before = order-before ∷ shares-before ∷ masks-before ∷ wires-before ∷ bytes-before ∷ []
+
+    -- a text that can be read is told with its description's order
+    read-order : (o h m w b : ℕ) → size .answer ≡ SizeAnswer.Size o h m w b → (r : Readable text maxTableBytes) → r .description .order ≡ o
+    read-order o h m w b e r =
+        let same = ap answerTold (sym e) ∙ ap (λ (s : Sized). s .told) told ∙ spelled-figures text r in cc
+
+    module _ (o h m w b : ℕ) (e : size .answer ≡ SizeAnswer.Size o h m w b) where
+      tells : sizeAnswered (checkSize text) before offset-before buffer ≡ figuresAnswered (figures o h m w b) (size .sets) before offset-before buffer
+      tells =
+          ap (λ (s : Sized). sizeAnswered s before offset-before buffer) (sym told)
+          ∙ ap (λ (a : SizeAnswer). figuresAnswered (answerTold a) (size .sets) before offset-before buffer) e
+
+      said : SizeSays (SizeAnswer.Size o h m w b) (size .sets) text
+      said = subst (λ (a : SizeAnswer). SizeSays a (size .sets) text) e says
+
+      readable : Readable text maxTableBytes
+      readable = figures-spelled text o h m w b (ap answerTold (sym e) ∙ ap (λ (s : Sized). s .told) told)
+
+      -- as many numbers stand beside the answer
+      pub size-low : o ≤ length (size .sets)
+      size-low = omega (arith, readable .spells .order-digit .1, read-order o h m w b e readable, said .1)
+
+      abbrev called : Bool → Called
+      called short = cond short (got 16 (before ++ offset-before ∷ []) buffer) (got 0 (o ∷ h ∷ m ∷ w ∷ b ∷ offset-before ∷ []) (written (take o (size .sets)) buffer))
+
+      pub size-short : (status : ℕ) → length buffer < o → status ≡ 16
+          → SizePromise status order-before shares-before masks-before wires-before bytes-before offset-before buffer before offset-before
+      size-short status less s = (
+        ap (λ (n : ℕ). got n (before ++ offset-before ∷ []) buffer) s ∙ sym (tells ∙ ap called (lt-ltb (length buffer) o less)),
+        (
+          λ no. (refl, refl),
+          record {
+            figures = λ zero. absurd (omega (arith, s, zero));
+            past-kept = λ zero. absurd (omega (arith, s, zero));
+            refuses = λ no other. absurd (other s);
+            short-exactly = (λ is. (readable, omega (arith, less, read-order o h m w b e readable)), λ r. s);
+          },
+        ),
+      )
+
+      -- the code copies the part of the numbers from 0 to the order
+      pub size-gave : (held : List ℕ) → o ≤ length buffer → held ≡ take (o - 0) (size .sets) ++ drop (length (take (o - 0) (size .sets))) buffer
+          → SizePromise 0 o h m w b offset-before held before offset-before
+      size-gave held room g =
+          let same : o - 0 ≡ o = omega arith in
+          let f : held ≡ take o (size .sets) ++ drop (length (take o (size .sets))) buffer =
+          g ∙ ap (λ (n : ℕ). take n (size .sets) ++ drop (length (take n (size .sets))) buffer) same in
+          let few : length (take o (size .sets)) ≡ o = length-take-le o (size .sets) size-low in
+          let front : take o held ≡ take o (size .sets) = ap (take o) f ∙ take-at (take o (size .sets)) (drop (length (take o (size .sets))) buffer) o few in
+          let rest : drop o held ≡ drop o buffer =
+          ap (drop o) f ∙ drop-at (take o (size .sets)) (drop (length (take o (size .sets))) buffer) o few ∙ ap (λ (n : ℕ). drop n buffer) few in (
+            ap (λ (l : List ℕ). got 0 (o ∷ h ∷ m ∷ w ∷ b ∷ offset-before ∷ []) l) f ∙ sym (tells ∙ ap called (le-ltb (length buffer) o room)),
+            (
+              kept-0 _ _ _ _,
+              record {
+                figures = λ zero. record {
+                  reads = said .0 .reads;
+                  short = said .0 .short;
+                  counts = λ k first last.
+                      let at : k - 1 < o = omega (arith, first, last) in
+                      said .0 .counts k first last
+                      ∙ ap (λ (n : ℕ). values (n ∷ []))
+                      (sym (getD-take o (size .sets) (k - 1) 0 at) ∙ ap (λ (l : List ℕ). getD l (k - 1) 0) (sym front) ∙ getD-take o held (k - 1) 0 at);
+                };
+                past-kept = λ zero. rest;
+                refuses = λ no other. absurd (no refl);
+                short-exactly = (λ is. absurd (omega (arith, is)), λ r. absurd (omega (arith, r .1, read-order o h m w b e (r .0), room)));
+              },
+            ),
+          )
+
+    pub size-refused : (why : Refusal) (offset status : ℕ) → size .answer ≡ SizeAnswer.Refused why offset → status ≡ refusalNumber why
+        → SizePromise status order-before shares-before masks-before wires-before bytes-before offset buffer before offset-before
+    size-refused why offset status e s =
+        let positive = read-number why .0 in
+        let small = read-number why .1 in
+        let said : SizeSays (SizeAnswer.Refused why offset) (size .sets) text = subst (λ (a : SizeAnswer). SizeSays a (size .sets) text) e says in (
+          ap (λ (n : ℕ). got n (before ++ offset ∷ []) buffer) s
+              ∙ sym
+              (ap (λ (t : Sized). sizeAnswered t before offset-before buffer) (sym told)
+              ∙ ap (λ (a : SizeAnswer). figuresAnswered (answerTold a) (size .sets) before offset-before buffer) e),
+          (
+            λ no. (refl, refl),
+            record {
+              figures = λ zero. absurd (omega (arith, s, zero, positive));
+              past-kept = λ zero. absurd (omega (arith, s, zero, positive));
+              refuses = λ no other. subst (λ (n : ℕ). Refuses text n offset) (sym s) (said .0);
+              short-exactly = (
+                λ is. absurd (omega (arith, s, is, small)),
+                λ r.
+                    let both = ap answerTold (sym e) ∙ ap (λ (t : Sized). t .told) told ∙ spelled-figures text (r .0) in
+                    let z : _≡_ {A = ℕ} 0 1 = cc in absurd (omega (arith, z)),
+              );
+            },
+          ),
+        )
+
+-- ---- what a caller in C has of it
+
+module _ (order shares masks wires bytes offset : ℕ) (text buffer held : List ℕ)
+    (says : CheckSizeSays 0 order shares masks wires bytes offset text buffer held) where
+  -- a table of so many bytes is read with the same four numbers
+  pub size-read : (table numbers : List ℕ) (place : ℕ) → bytes ≤ length table
+      → lentRead (readText text table) numbers place ≡ got 0 (order ∷ shares ∷ masks ∷ wires ∷ place ∷ []) (readText text table .held)
+  size-read table numbers place room =
+      ap (λ (t : ReadTold). readAnswered t numbers place (readText text table .held)) (says .figures refl .reads table room)
+
+  -- every shorter one is refused
+  pub size-too-short : (table numbers : List ℕ) (place : ℕ) → length table < bytes
+      → lentRead (readText text table) numbers place ≡ got 10 (numbers ++ length text ∷ []) (readText text table .held)
+  size-too-short table numbers place less =
+      ap (λ (t : ReadTold). readAnswered t numbers place (readText text table .held)) (says .figures refl .short table less)
+
+  -- and the set count writes the number that stands in the buffer
+  pub size-count : (size before : ℕ) → 1 ≤ size → size ≤ order
+      → answered (setCount wires size) (before ∷ []) [] ≡ got 0 (getD held (size - 1) 0 ∷ []) []
+  size-count size before first last = ap (λ (t : Told). answered t (before ∷ []) []) (says .figures refl .counts size first last)
+
+-- a text that is turned down is so by reading too, with the same status at the same place, whatever the table
+pub size-turned-down : (status order shares masks wires bytes offset : ℕ) (text buffer held : List ℕ)
+    → CheckSizeSays status order shares masks wires bytes offset text buffer held → (status ≡ 0 → ⊥) → (status ≡ 16 → ⊥)
+    → (table numbers : List ℕ) (place : ℕ)
+    → lentRead (readText text table) numbers place ≡ got status (numbers ++ offset ∷ []) (readText text table .held)
+size-turned-down status order shares masks wires bytes offset text buffer held says fails other table numbers place =
+    ap (λ (t : ReadTold). readAnswered t numbers place (readText text table .held)) (says .refuses fails other .whatever table)
+
+-- with room for the sizes of the highest order 16 is never given
+pub size-room : (status order shares masks wires bytes offset : ℕ) (text buffer held : List ℕ)
+    → CheckSizeSays status order shares masks wires bytes offset text buffer held → maxOrder ≤ length buffer → status ≡ 16 → ⊥
+size-room status order shares masks wires bytes offset text buffer held says room is =
+    let r = says .short-exactly .0 is in omega (arith, r .1, r .0 .spells .order-digit .1, room)
+
+-- the buffer's start has the numbers, and nothing past them is written: so its whole content is told
+pub size-buffer : (order shares masks wires bytes offset : ℕ) (text buffer held : List ℕ)
+    → CheckSizeSays 0 order shares masks wires bytes offset text buffer held → wires ≤ maxWires → order ≤ maxSize → order ≤ length held
+    → held ≡ setCounts wires order ++ drop order buffer
+size-buffer order shares masks wires bytes offset text buffer held says few low room =
+    let front : take order held ≡ setCounts wires order =
+    ext-getD 0 (take order held) (setCounts wires order) (length-take-le order held room ∙ sym (counts-length wires order))
+    (λ k inside.
+    let at : k < order = omega (arith, inside, length-take-le order held room) in
+    let one : suc k - 1 ≡ k = omega arith in
+    let told = sym (set-told wires (suc k) few (omega (arith, at, low))) ∙ says .figures refl .counts (suc k) (omega arith) (omega (arith, at)) in
+    let number : binom wires (suc k) ≡ getD held (suc k - 1) 0 = cc in
+    getD-take order held k 0 at ∙ ap (λ (n : ℕ). getD held n 0) (sym one) ∙ sym number ∙ sym (counts-at wires order k at)) in
+    sym (take-append-drop order held) ∙ ap₂ {C = List ℕ} _++_ front (says .past-kept refl)
+  where
+    set-told : (n k : ℕ) → n ≤ maxWires → k ≤ maxSize → setCount n k ≡ values (binom n k ∷ [])
+    set-told n k a b = simp (le-ltb maxWires n a, le-ltb maxSize k b)
