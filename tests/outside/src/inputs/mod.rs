@@ -2,6 +2,7 @@
 
 pub mod calls;
 pub mod damage;
+pub mod files;
 pub mod gadgets;
 pub mod noted;
 pub mod runs;

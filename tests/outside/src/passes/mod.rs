@@ -15,6 +15,7 @@ mod ranges;
 mod refusals;
 mod reports;
 mod sets;
+mod sizes;
 mod stack;
 mod texts;
 mod verdicts;
@@ -27,7 +28,7 @@ use crate::tally::Tally;
 
 type Pass = fn(&mut Random, &mut Tally);
 
-const PASSES: [Pass; 18] = [
+const PASSES: [Pass; 19] = [
     guards::run,
     examples::run,
     sets::run,
@@ -46,6 +47,7 @@ const PASSES: [Pass; 18] = [
     words::run,
     isw::run,
     isw_program::run,
+    sizes::run,
 ];
 
 pub fn run_all(seed: u64, tally: &mut Tally) {
