@@ -6,6 +6,7 @@ pub mod functions;
 pub mod isw;
 pub mod lines;
 pub mod notes;
+pub mod plan;
 pub mod reading;
 pub mod records;
 pub mod report;

@@ -10,6 +10,7 @@ mod isw_program;
 mod jobs;
 mod large;
 mod noted;
+mod plan_program;
 mod programs;
 mod ranges;
 mod refusals;
@@ -28,7 +29,7 @@ use crate::tally::Tally;
 
 type Pass = fn(&mut Random, &mut Tally);
 
-const PASSES: [Pass; 19] = [
+const PASSES: [Pass; 20] = [
     guards::run,
     examples::run,
     sets::run,
@@ -48,6 +49,7 @@ const PASSES: [Pass; 19] = [
     isw::run,
     isw_program::run,
     sizes::run,
+    plan_program::run,
 ];
 
 pub fn run_all(seed: u64, tally: &mut Tally) {
