@@ -56,7 +56,8 @@ const SEVERAL: [&[&str]; 7] = [
     &["0", "7"],
     &["10000000", "10000000", "10000000"],
 ];
-const REFUSED: &str = "ORDER = 1\nMASKS = [r0]\ns00 r0\ns11 | r0\n";
+/// By a bar.
+pub const REFUSED: &str = "ORDER = 1\nMASKS = [r0]\ns00 r0\ns11 | r0\n";
 /// A text that stands in a file, whose position tells whether it was read.
 const FILE: &str = "gadgets/isw-1.txt";
 

@@ -2,10 +2,11 @@
 //! and outputs that can not be written. What it prints and what it says on standard error is compared byte for byte.
 
 use super::programs::{show_some, LIMIT};
-use crate::child::{run_all, Error, Input, Outcome, Output};
+use crate::child::{run_all, Call, Error, Input, Outcome, Output};
 use crate::faults;
 use crate::inputs::calls::show_text;
-use crate::inputs::plans::{self, Case};
+use crate::inputs::plans::{self, Case, REFUSED};
+use crate::model::isw;
 use crate::model::plan::{self, RIGHT, USAGE};
 use crate::model::reading::MAX_TEXT_BYTES;
 use crate::model::sizes::Size;
@@ -67,6 +68,26 @@ const WORDS: [(&str, &str); 33] = [
 ];
 const EMPTY_LINE: &str = "of an empty line";
 
+/// As in tests/outside/NOTES.md, of ISW at order 2 with nine wires more.
+const PLAN: &str = "\
+order                                  2
+shares                                 3
+masks                                  3
+wires                                 33
+bytes of the table                   792
+sets of size 1                        33
+sets of size 2                       528
+sets in all                          561
+
+NI and SNI: up to 1122 sets, less than a second at 10000000 sets a second
+";
+const REFUSAL: &str = "\
+plan: refused 7 at 34
+plan: line 4, byte 5: a bar: registers can not be described yet
+    s11 | r0
+        ^
+";
+
 /// What is to come of a case.
 enum Wanted {
     Said(plan::Outcome),
@@ -78,6 +99,7 @@ pub fn run(random: &mut Random, tally: &mut Tally) {
     tally.expect("plan program", &KINDS);
     tally.expect("plan words", &WORDS.map(|(kind, _)| kind));
     tally.expect("plan words", &[EMPTY_LINE]);
+    examples(tally);
     let cases = plans::all(random);
     let run = |case: &Case| case.call.run(PROGRAM, LIMIT);
     let hangs = |_: &Case, outcome: &Outcome| outcome.status.is_none();
@@ -94,6 +116,20 @@ pub fn run(random: &mut Random, tally: &mut Tally) {
             if let Some(arrived) = arrived(case, &outcome) {
                 faults::plan::program(tally, &arguments, (case.text(), case.first_piece()), &size, &arrived);
             }
+        }
+    }
+}
+
+/// A plan and a refusal that were written by hand, whatever the model says.
+fn examples(tally: &mut Tally) {
+    let more = " s22".repeat(9);
+    let plan = format!("{}{more}\n", isw::RIGHT.text(2).trim_end());
+    for (text, printed, said) in [(plan.as_str(), PLAN, ""), (REFUSED, "", REFUSAL)] {
+        let call = Call::on(Input::Pieces(vec![text.as_bytes().to_vec()]));
+        let outcome = call.run(PROGRAM, LIMIT);
+        if [&outcome.printed, &outcome.said] != [printed.as_bytes(), said.as_bytes()] {
+            let arrived = [&outcome.printed, &outcome.said].map(|bytes| show_some(bytes));
+            tally.differs(|| format!("{PROGRAM}: not as by hand: {}", arrived.join(", ")));
         }
     }
 }
