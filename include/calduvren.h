@@ -4,10 +4,10 @@
  * libcalduvren.a, which needs nothing but the C library.
  *
  * A gadget computes on two operands, a and b, each a secret bit split into shares, and adds random bits, the masks.
- * A watcher reads a few of its wires. The functions below read a gadget's description into a table of its wires, check
- * its function, say whether it is NI and SNI at an order and show the first breaking set, tell which operand a set gives
- * away, number the sets of wires and divide the search over machines. One writes a description: the multiplication of
- * Ishai, Sahai and Wagner.
+ * A watcher reads a few of its wires. The functions below read a gadget's description into a table of its wires, tell
+ * beforehand how large a check of it is, check its function, say whether it is NI and SNI at an order and show the first
+ * breaking set, tell which operand a set gives away, number the sets of wires and divide the search over machines. One
+ * writes a description: the multiplication of Ishai, Sahai and Wagner.
  *
  * Breaking sets
  *
@@ -28,22 +28,23 @@
  * What every function does
  *
  * - It returns a status: 0, which is CALDUVREN_OK, or the number of the refusal. A refusal alters no lent memory; the
- *   one exception is the `offset` of calduvren_read_text, which says where in the text the refusal is. The refusals of
- *   each function are listed in the order in which they are tested (those of a text come by their offset first), and
- *   nothing else is refused. Their names stand below, CALDUVREN_REFUSED_...
+ *   one exception is the `offset` of calduvren_read_text and calduvren_check_size, which says where in the text the
+ *   refusal is. The refusals of each function are listed in the order in which they are tested (those of a text come by
+ *   their offset first), and nothing else is refused. Their names stand below, CALDUVREN_REFUSED_...
  * - With status 0 it writes its answer through the pointers. A number that is named below as written is written, and
  *   no other is touched; of a lent buffer nothing is touched past what is written.
  * - Every number may have any value and every buffer any contents. A call always returns, but nothing interrupts it: a
  *   verdict, a range check and a report take some 100 nanoseconds for each set that they look at, and a verdict or a
  *   report that finds no breaking set looks at every set of up to as many wires as the order (of 512 wires, years at
- *   order 7). calduvren_set_count tells beforehand how many these are, and calduvren_job divides them for range checks.
+ *   order 7). calduvren_check_size tells beforehand how many these are, from a text alone; calduvren_set_count does so
+ *   from a number of wires, and calduvren_job divides them for range checks.
  * - `yes`, `holds` and `clean` are 1 where the answer is good and 0 where it is not: a caller that sets them to 0
  *   beforehand takes no refusal for a good answer. A table of length 0 is a table of no wires, and holds.
  *
  * What a caller owes
  *
- * - A pointer that comes with a length is valid for so many elements (bytes, or 16-bit numbers), and a pointer to a
- *   number for that number. Each is aligned for its type.
+ * - A pointer that comes with a length is valid for so many elements (bytes, or numbers of 16 or of 64 bits), and a
+ *   pointer to a number for that number. Each is aligned for its type.
  * - No pointer is null, also where the length is 0: the library's own compiler promises nothing for a null pointer, so
  *   this header can not. With length 0 pass the address of any object of the type, as a local variable's. In C++, where
  *   data() of an empty vector may be null: `uint8_t none = 0;` and `text.empty() ? &none : text.data(), text.size()`.
@@ -63,12 +64,12 @@ extern "C" {
 #endif
 
 /*
- * The version, for #if: major * 10000 + minor * 100 + patch, so 20100 is 2.1.0. A version that adds a function raises
+ * The version, for #if: major * 10000 + minor * 100 + patch, so 20200 is 2.2.0. A version that adds a function raises
  * the minor number, one that changes what a call with the same arguments answers raises the major one, and any other
  * the patch. Header and library belong together: the library tells no version of its own, so keep it with the header
  * that it came with.
  */
-#define CALDUVREN_VERSION 20100
+#define CALDUVREN_VERSION 20200
 
 #define CALDUVREN_MAX_TEXT_BYTES 4096
 #define CALDUVREN_RECORD_BYTES 24
@@ -112,7 +113,7 @@ extern "C" {
 #define CALDUVREN_REFUSED_RECORD 13           /* a record with a bit beyond shares or masks, or byte 18 over 1 */
 #define CALDUVREN_REFUSED_NOTION 14           /* notion neither NI nor SNI */
 #define CALDUVREN_REFUSED_ORDER 15            /* order not 1 to shares - 1 */
-#define CALDUVREN_REFUSED_BUFFER 16           /* the set or buffer lent for the answer is too short */
+#define CALDUVREN_REFUSED_BUFFER 16           /* the set, sets or buffer lent for the answer is too short */
 #define CALDUVREN_REFUSED_SIZE 17             /* a set of over 7 wires */
 #define CALDUVREN_REFUSED_RANKS 18            /* a rank that no set has, or bounds beyond the sets or falling */
 #define CALDUVREN_REFUSED_JOBS 19             /* no jobs, over 65,536, or job not below jobs */
@@ -185,6 +186,36 @@ calduvren_status calduvren_read_text(const uint8_t *text, size_t text_length, ui
  */
 calduvren_status calduvren_text_part(const uint8_t *text, size_t text_length, const uint8_t *table, size_t table_length,
                                      size_t wire, size_t *offset, size_t *length);
+
+/*
+ * The size of a check, from a text alone, before anything is run: how many wires the text has, how many bytes their
+ * table takes, and how many sets of each size a verdict at the text's order looks at where it holds. A report looks at
+ * as many again, since it gives two verdicts. The text is read as by calduvren_read_text, but no table is lent, so none
+ * is too short.
+ *
+ * Written with status 0: order, shares, masks and wires, as calduvren_read_text writes them; bytes, which is 24 * wires,
+ * the length of a table with just enough room; and the first `order` elements of sets: sets[k - 1] is how many sets of k
+ * out of these wires there are, as calduvren_set_count tells it. A length of CALDUVREN_MAX_ORDER is always enough for
+ * sets. offset is left as it was.
+ * Written with a status from 1 to 10: offset alone, the place in the text. With 16 nothing is written.
+ *
+ * Refusals, those of a text first: that at the lowest offset, and at one offset the first of:
+ *   1   over 4,096 bytes (offset 4,096; before all others)
+ *   2   first line wrong (offset 0)
+ *   3   second line wrong or absent (where it starts, or the text's length)
+ *   9   a line too many (its first byte that is no space)
+ *   8   a parenthesis opened when sixteen are open
+ *   7   a bar
+ *   4   no such symbol, a mask name out of form too (as r64 or r01), or a share beyond the order (its start)
+ *   5   a well-formed mask that is not declared (its start)
+ *   6   a closing parenthesis with none open or nothing inside; at a line's end, one still open
+ *   9   lines too few (the text's length)
+ *   10  over 512 wires, and nothing else (the text's length)
+ *   16  sets_length below the text's order (only where the text is not refused)
+ */
+calduvren_status calduvren_check_size(const uint8_t *text, size_t text_length, uint64_t *sets, size_t sets_length,
+                                      size_t *order, size_t *shares, size_t *masks, size_t *wires, size_t *bytes,
+                                      size_t *offset);
 
 /*
  * Whether the outer wires of a table add up, for every value of shares and masks, to a function: CALDUVREN_PRODUCT of

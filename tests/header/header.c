@@ -25,8 +25,9 @@
 
 /* All that a call may write. Before each call every byte of it is UNTOUCHED. */
 struct answer {
-    size_t order, shares, masks, wires, offset, length, size, of_a, of_b, allowed;
+    size_t order, shares, masks, wires, bytes, offset, length, size, of_a, of_b, allowed;
     uint64_t yes, holds, clean, rank, sets, from, to, masked;
+    uint64_t sets_by_size[CALDUVREN_MAX_ORDER + 1];
     uint16_t set[CALDUVREN_MAX_SIZE + 1];
     uint8_t table[CALDUVREN_MAX_TABLE_BYTES];
     uint8_t buffer[CALDUVREN_MAX_REPORT_BYTES];
@@ -55,6 +56,22 @@ static const uint8_t wires_c[6][9] = {
     {0, 0, 0, 1, 0, 0, 0, 21, 2}, {0, 0, 0, 0, 1, 0, 0, 24, 2}, {0, 0, 0, 1, 1, 1, 0, 21, 5},
     {0, 0, 0, 2, 0, 0, 0, 27, 2}, {0, 0, 0, 0, 2, 0, 0, 30, 2}, {0, 0, 0, 2, 2, 1, 1, 27, 5},
 };
+/* The multiplication of Ishai, Sahai and Wagner. */
+static const char isw_2[] =
+    "ORDER = 2\nMASKS = [r0, r1, r2]\ns00 r0 r1\ns11 ((r0 s01) s10) r2\ns22 ((r1 s02) s20) ((r2 s12) s21)\n";
+static const char isw_7[] =
+    "ORDER = 7\n"
+    "MASKS = [r0, r1, r2, r3, r4, r5, r6, r7, r8, r9, r10, r11, r12, r13, r14, r15, r16, r17, r18, r19, r20, r21, "
+    "r22, r23, r24, r25, r26, r27]\n"
+    "s00 r0 r1 r2 r3 r4 r5 r6\n"
+    "s11 ((r0 s01) s10) r7 r8 r9 r10 r11 r12\n"
+    "s22 ((r1 s02) s20) ((r7 s12) s21) r13 r14 r15 r16 r17\n"
+    "s33 ((r2 s03) s30) ((r8 s13) s31) ((r13 s23) s32) r18 r19 r20 r21\n"
+    "s44 ((r3 s04) s40) ((r9 s14) s41) ((r14 s24) s42) ((r18 s34) s43) r22 r23 r24\n"
+    "s55 ((r4 s05) s50) ((r10 s15) s51) ((r15 s25) s52) ((r19 s35) s53) ((r22 s45) s54) r25 r26\n"
+    "s66 ((r5 s06) s60) ((r11 s16) s61) ((r16 s26) s62) ((r20 s36) s63) ((r23 s46) s64) ((r25 s56) s65) r27\n"
+    "s77 ((r6 s07) s70) ((r12 s17) s71) ((r17 s27) s72) ((r21 s37) s73) ((r24 s47) s74) ((r26 s57) s75) "
+    "((r27 s67) s76)\n";
 static uint8_t table_a[9 * CALDUVREN_RECORD_BYTES], table_b[sizeof table_a], table_c[6 * CALDUVREN_RECORD_BYTES];
 
 /* Compares a call's status and all that was lent, and makes both ready for the next call. */
@@ -155,6 +172,76 @@ static void read_text(void)
     REFUSES_TEXT(TWO_LINES "a0\n", 24, LINES);
     wanted.offset = strlen(text_a);
     REFUSES(READ(text_a, strlen(text_a), sizeof table_a - 1), WIRES);
+}
+
+#define CHECK_SIZE(text, text_length, sets_length) \
+    calduvren_check_size((const uint8_t *)(text), text_length, lent.sets_by_size, sets_length, &lent.order, \
+                         &lent.shares, &lent.masks, &lent.wires, &lent.bytes, &lent.offset)
+
+#define REFUSES_SIZE(text, at, refusal) \
+    do { \
+        wanted.offset = at; \
+        REFUSES(CHECK_SIZE(text, strlen(text), CALDUVREN_MAX_ORDER), refusal); \
+    } while (0)
+
+static void want_size(size_t order, size_t masks, size_t wires, const uint64_t *sets)
+{
+    wanted.order = order;
+    wanted.shares = order + 1;
+    wanted.masks = masks;
+    wanted.wires = wires;
+    wanted.bytes = CALDUVREN_RECORD_BYTES * wires;
+    memcpy(wanted.sets_by_size, sets, order * sizeof *sets);
+}
+
+/* A text of so many wires at order 7. The first line has one for its symbol and one for each addition. */
+static const char *text_of(size_t wires)
+{
+    static char text[CALDUVREN_MAX_TEXT_BYTES];
+    strcpy(text, "ORDER = 7\nMASKS = []\na0");
+    for (size_t wire = 8; wire < wires; wire++)
+        strcat(text, " a0");
+    return strcat(text, "\na0\na0\na0\na0\na0\na0\na0\n");
+}
+
+static void check_size(void)
+{
+    static const uint64_t of_9[] = {9}, of_24[] = {24, 276};
+    static const uint64_t of_204[] = {204, 20706, 1394204, 70058751, 2802350040, 92944609660, 2629004673240};
+    static const uint64_t of_512[] = {512,          130816,         22238720,        2829877120,
+                                      287515515392, 24295061050624, 1756185841659392};
+    want_size(1, 1, 9, of_9);
+    ANSWERS(CHECK_SIZE(text_a, strlen(text_a), 1));
+    want_size(2, 3, 24, of_24);
+    ANSWERS(CHECK_SIZE(isw_2, strlen(isw_2), CALDUVREN_MAX_ORDER));
+    want_size(CALDUVREN_MAX_ORDER, 28, 204, of_204);
+    ANSWERS(CHECK_SIZE(isw_7, strlen(isw_7), CALDUVREN_MAX_ORDER));
+    want_size(CALDUVREN_MAX_ORDER, 0, CALDUVREN_MAX_WIRES, of_512);
+    ANSWERS(CHECK_SIZE(text_of(512), strlen(text_of(512)), CALDUVREN_MAX_ORDER + 1));
+    REFUSES_SIZE(text_of(513), strlen(text_of(513)), WIRES);
+    wanted.offset = strlen(text_of(513)); /* before 16 */
+    REFUSES(CHECK_SIZE(text_of(513), strlen(text_of(513)), 0), WIRES);
+    REFUSES(CHECK_SIZE(text_a, strlen(text_a), 0), BUFFER);
+    REFUSES(CHECK_SIZE(isw_7, strlen(isw_7), CALDUVREN_MAX_ORDER - 1), BUFFER);
+}
+
+static void check_size_of_refused(void)
+{
+    static char spaces[CALDUVREN_MAX_TEXT_BYTES + 1];
+    memset(spaces, ' ', sizeof spaces);
+    wanted.offset = CALDUVREN_MAX_TEXT_BYTES;
+    REFUSES(CHECK_SIZE(spaces, CALDUVREN_MAX_TEXT_BYTES + 1, CALDUVREN_MAX_ORDER), TEXT_TOO_LONG);
+    REFUSES_SIZE("", 0, FIRST_LINE);
+    REFUSES_SIZE("ORDER = 1\n", 10, SECOND_LINE);
+    REFUSES_SIZE(TWO_LINES "a2\n", 21, SYMBOL);
+    REFUSES_SIZE(TWO_LINES "r0\n", 21, UNDECLARED_MASK);
+    REFUSES_SIZE(TWO_LINES "()\n", 22, PARENTHESIS);
+    REFUSES_SIZE(TWO_LINES "a0 | a1\n", 24, BAR);
+    REFUSES_SIZE(TWO_LINES "(((((((((((((((((a0\n", 37, DEPTH);
+    REFUSES_SIZE(TWO_LINES "a0\na1\na1\n", 27, LINES);
+    REFUSES_SIZE(TWO_LINES "a0\n", 24, LINES);
+    wanted.offset = 24; /* before 16 */
+    REFUSES(CHECK_SIZE(TWO_LINES "a0\n", 24, 0), LINES);
 }
 
 #define PART(text_length, table_length, wire) \
@@ -349,6 +436,8 @@ static void no_elements(void)
     uint16_t no_wire = 0;
     wanted.offset = 0;
     REFUSES(READ(&none, 0, 0), FIRST_LINE);
+    wanted.offset = 0;
+    REFUSES(CHECK_SIZE(&none, 0, 0), FIRST_LINE);
     wanted.holds = 1; /* a table of no wires */
     ANSWERS(JUDGE(&none, 0, 2, 0, CALDUVREN_SNI, 1, 1));
     want_dependence(0, 0, 0, 0);
@@ -384,30 +473,15 @@ static void want_text(const char *text)
 
 static void isw_text(void)
 {
-    static const char order_2[] =
-        "ORDER = 2\nMASKS = [r0, r1, r2]\ns00 r0 r1\ns11 ((r0 s01) s10) r2\ns22 ((r1 s02) s20) ((r2 s12) s21)\n";
-    static const char order_7[] =
-        "ORDER = 7\n"
-        "MASKS = [r0, r1, r2, r3, r4, r5, r6, r7, r8, r9, r10, r11, r12, r13, r14, r15, r16, r17, r18, r19, r20, r21, "
-        "r22, r23, r24, r25, r26, r27]\n"
-        "s00 r0 r1 r2 r3 r4 r5 r6\n"
-        "s11 ((r0 s01) s10) r7 r8 r9 r10 r11 r12\n"
-        "s22 ((r1 s02) s20) ((r7 s12) s21) r13 r14 r15 r16 r17\n"
-        "s33 ((r2 s03) s30) ((r8 s13) s31) ((r13 s23) s32) r18 r19 r20 r21\n"
-        "s44 ((r3 s04) s40) ((r9 s14) s41) ((r14 s24) s42) ((r18 s34) s43) r22 r23 r24\n"
-        "s55 ((r4 s05) s50) ((r10 s15) s51) ((r15 s25) s52) ((r19 s35) s53) ((r22 s45) s54) r25 r26\n"
-        "s66 ((r5 s06) s60) ((r11 s16) s61) ((r16 s26) s62) ((r20 s36) s63) ((r23 s46) s64) ((r25 s56) s65) r27\n"
-        "s77 ((r6 s07) s70) ((r12 s17) s71) ((r17 s27) s72) ((r21 s37) s73) ((r24 s47) s74) ((r26 s57) s75) "
-        "((r27 s67) s76)\n";
     want_text(text_a);
     ANSWERS(WRITE(1, CALDUVREN_MAX_TEXT_BYTES));
-    want_text(order_2);
-    ANSWERS(WRITE(2, strlen(order_2)));
-    want_text(order_7);
+    want_text(isw_2);
+    ANSWERS(WRITE(2, strlen(isw_2)));
+    want_text(isw_7);
     ANSWERS(WRITE(CALDUVREN_MAX_ISW_ORDER, CALDUVREN_MAX_TEXT_BYTES));
     REFUSES(WRITE(0, CALDUVREN_MAX_TEXT_BYTES), ISW_ORDER);
     REFUSES(WRITE(CALDUVREN_MAX_ISW_ORDER + 1, CALDUVREN_MAX_TEXT_BYTES), ISW_ORDER);
-    REFUSES(WRITE(2, strlen(order_2) - 1), ISW_ROOM);
+    REFUSES(WRITE(2, strlen(isw_2) - 1), ISW_ROOM);
     REFUSES(WRITE(CALDUVREN_MAX_ISW_ORDER + 1, 0), ISW_ORDER);
 }
 
@@ -420,6 +494,8 @@ int main(void)
     memset(&wanted, UNTOUCHED, sizeof wanted);
     refusal_names();
     read_text();
+    check_size();
+    check_size_of_refused();
     text_part();
     function_check();
     verdict();

@@ -1,10 +1,11 @@
 //! The entries and their answers: all that the scope gives each of them, and all of it has to be reached in a run.
 
-/// The twelve entries, in the header's order.
+/// The thirteen entries, in the header's order.
 #[derive(Clone, Copy, PartialEq, Eq, PartialOrd, Ord, Debug)]
 pub enum Entry {
     ReadText,
     TextPart,
+    CheckSize,
     FunctionCheck,
     Verdict,
     RangeCheck,
@@ -22,7 +23,7 @@ pub type Answer = (u64, &'static str);
 
 /// The entries with their names and every answer that has to be reached, which is every one that the scope gives them.
 /// The refusals stand in the order in which they are tested; the header has to list them so too.
-pub const REQUIRED: [(Entry, &str, &[Answer]); 12] = [
+pub const REQUIRED: [(Entry, &str, &[Answer]); 13] = [
     (
         Entry::ReadText,
         "read_text",
@@ -48,6 +49,27 @@ pub const REQUIRED: [(Entry, &str, &[Answer]); 12] = [
         Entry::TextPart,
         "text_part",
         &[(0, "answered"), (12, ""), (21, ""), (22, "")],
+    ),
+    (
+        Entry::CheckSize,
+        "check_size",
+        &[
+            (0, "told"),
+            (1, ""),
+            (2, ""),
+            (3, ""),
+            (9, "too many"),
+            (8, ""),
+            (7, ""),
+            (4, ""),
+            (5, ""),
+            (6, "none open"),
+            (6, "nothing inside"),
+            (6, "still open"),
+            (9, "too few"),
+            (10, "wires"),
+            (16, ""),
+        ],
     ),
     (
         Entry::FunctionCheck,

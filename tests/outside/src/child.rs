@@ -6,8 +6,10 @@ use std::io::{Read, Seek, Write};
 use std::os::unix::process::CommandExt;
 use std::path::PathBuf;
 use std::process::{Child, ChildStdin, Command, ExitStatus, Stdio};
+use std::sync::atomic::{AtomicUsize, Ordering};
 use std::sync::mpsc::{channel, Receiver};
-use std::thread::{sleep, spawn};
+use std::sync::Mutex;
+use std::thread::{scope, sleep, spawn};
 use std::time::{Duration, Instant};
 
 /// Long enough for a reader that waits to take one piece of its input before the next comes.
@@ -153,6 +155,32 @@ impl Call {
         ];
         all.iter().filter(|(done, _)| *done).map(|(_, how)| *how).collect()
     }
+}
+
+/// Each case with what came of it, so many run at a time. After one that hangs no other is started.
+pub fn run_all<C: Sync, R: Send>(
+    cases: &[C],
+    at_a_time: usize,
+    run: impl Fn(&C) -> R + Sync,
+    hangs: impl Fn(&C, &R) -> bool + Sync,
+) -> Vec<(&C, R)> {
+    let next = AtomicUsize::new(0);
+    let done = Mutex::new(Vec::new());
+    let work = || {
+        while let Some(case) = cases.get(next.fetch_add(1, Ordering::Relaxed)) {
+            let outcome = run(case);
+            if hangs(case, &outcome) {
+                next.store(cases.len(), Ordering::Relaxed);
+            }
+            done.lock().expect("no work panics").push((case, outcome));
+        }
+    };
+    scope(|threads| {
+        (0..at_a_time).for_each(|_| {
+            threads.spawn(work);
+        });
+    });
+    done.into_inner().expect("no work panics")
 }
 
 fn opened(path: &PathBuf) -> File {

@@ -1,6 +1,6 @@
 //! The outside tests of Calduvren: a model of the scope, written apart from the engine, is compared with the engine
-//! through its C interface on many inputs, and with the programs `report` and `isw` as they were built. The one argument
-//! is the seed, a number.
+//! through its C interface on many inputs, and with the programs `report`, `isw` and `plan` as they were built. The one
+//! argument is the seed, a number.
 
 mod answers;
 mod child;

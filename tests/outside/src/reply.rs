@@ -2,8 +2,8 @@
 
 use std::fmt;
 
-/// No entry is lent more numbers than read_text.
-pub const MOST_NUMBERS: usize = 5;
+/// No entry is lent more numbers than check_size.
+pub const MOST_NUMBERS: usize = 6;
 
 #[derive(Clone, PartialEq, Eq)]
 pub struct Reply {
@@ -12,6 +12,8 @@ pub struct Reply {
     pub numbers: [Option<u64>; MOST_NUMBERS],
     /// The lent buffer up to the last element that was altered, a byte or a wire number each.
     pub written: Vec<u16>,
+    /// The numbers of sets that are lent to check_size, up to the last that was altered.
+    pub sets: Vec<u64>,
     /// Whether all other memory stands as it was: what was lent for reading, and the guards around all that was lent.
     pub rest_kept: bool,
 }
@@ -23,6 +25,7 @@ impl Reply {
             status,
             numbers: [None; MOST_NUMBERS],
             written: Vec::new(),
+            sets: Vec::new(),
             rest_kept: true,
         }
     }
@@ -49,6 +52,9 @@ impl fmt::Display for Reply {
             }
         }
         write!(out, ", written {:?}", self.written)?;
+        if !self.sets.is_empty() {
+            write!(out, ", sets {:?}", self.sets)?;
+        }
         if !self.rest_kept {
             write!(out, ", MEMORY ALTERED that was not lent for writing")?;
         }

@@ -11,7 +11,7 @@ const MOST_SHOWN: u64 = 10;
 pub struct Tally {
     answers: BTreeMap<(Entry, Answer), u64>,
     occurrences: Vec<(&'static str, &'static str, u64)>,
-    noticed: Vec<(&'static str, u64)>,
+    noticed: Vec<(String, u64)>,
     lines: Vec<String>,
     differences: u64,
 }
@@ -27,11 +27,13 @@ impl Tally {
         engine: &Reply,
         input: impl Fn() -> String,
     ) {
-        let word = if model.status == 0 || entry == Entry::ReadText {
-            word
-        } else {
-            ""
+        let has_word = match entry {
+            // 16 is no refusal of the text.
+            Entry::CheckSize => model.status != 16,
+            Entry::ReadText => true,
+            _ => model.status == 0,
         };
+        let word = if has_word { word } else { "" };
         *self.answers.entry((entry, (model.status, word))).or_default() += 1;
         if model != engine {
             self.differs(|| format!("{entry:?} {}\n    model:  {model}\n    engine: {engine}", input()));
@@ -60,12 +62,12 @@ impl Tally {
     }
 
     /// Names a wrong model that has to be noticed.
-    pub fn expect_fault(&mut self, name: &'static str) {
-        self.noticed.push((name, 0));
+    pub fn expect_fault(&mut self, name: &str) {
+        self.noticed.push((String::from(name), 0));
     }
 
     /// Counts an input on which a wrong model does not say what the engine says.
-    pub fn fault(&mut self, name: &'static str, differs: bool) {
+    pub fn fault(&mut self, name: &str, differs: bool) {
         let known = self.noticed.iter_mut().find(|known| known.0 == name);
         known.expect("a fault is named first").1 += u64::from(differs);
     }

@@ -21,6 +21,18 @@ extern "C" {
         offset: *mut usize,
         length: *mut usize,
     ) -> u64;
+    pub fn calduvren_check_size(
+        text: *const u8,
+        text_length: usize,
+        sets: *mut u64,
+        sets_length: usize,
+        order: *mut usize,
+        shares: *mut usize,
+        masks: *mut usize,
+        wires: *mut usize,
+        bytes: *mut usize,
+        offset: *mut usize,
+    ) -> u64;
     pub fn calduvren_function_check(
         table: *const u8,
         table_length: usize,

@@ -13,6 +13,9 @@ const FILLING_BITS: u64 = 0x8080_8080_8080_8080;
 /// The filling changes from call to call, so that a stray write of an equal byte is not hidden twice.
 static CALLS: AtomicU64 = AtomicU64::new(0);
 
+/// The bytes of a number, whether it is lent alone or in a row.
+const NUMBER_BYTES: usize = 8;
+
 /// A lent piece: its first byte in the block, how many elements, bytes in each.
 #[derive(Clone, Copy)]
 pub struct Piece {
@@ -60,10 +63,15 @@ impl Lent {
     }
 
     pub fn number(&mut self) -> Piece {
+        self.numbers(1)
+    }
+
+    /// Numbers in a row, which start at an address that suits them.
+    pub fn numbers(&mut self, elements: usize) -> Piece {
         self.place(Piece {
             start: 0,
-            elements: 1,
-            width: 8,
+            elements,
+            width: NUMBER_BYTES,
         })
     }
 
@@ -108,14 +116,16 @@ impl Lent {
             reply.numbers[place] = (now != was).then_some(now);
             self.block[number.start / 8] = was;
         }
-        if let Some(piece) = buffer {
-            reply.written = self.take_written(piece);
+        match buffer {
+            Some(piece) if piece.width == NUMBER_BYTES => reply.sets = self.take_written(piece, element),
+            Some(piece) => reply.written = self.take_written(piece, |bytes| element(bytes) as u16),
+            None => {}
         }
         reply.rest_kept = self.block == self.before;
         reply
     }
 
-    fn take_written(&mut self, piece: Piece) -> Vec<u16> {
+    fn take_written<T>(&mut self, piece: Piece, element: fn(&[u8]) -> T) -> Vec<T> {
         let range = piece.start..piece.start + piece.elements * piece.width;
         let before = &view(&mut self.before)[range.clone()];
         let now = &mut view(&mut self.block)[range];
@@ -124,13 +134,18 @@ impl Lent {
             .find(|&at| now[at] != before[at])
             .map_or(0, |at| at / piece.width + 1);
         let elements = now[..altered * piece.width].chunks_exact(piece.width);
-        let written = elements.map(|element| match element {
-            [byte] => u16::from(*byte),
-            wire => u16::from_ne_bytes([wire[0], wire[1]]),
-        });
-        let written = written.collect();
+        let written = elements.map(element).collect();
         now.copy_from_slice(before);
         written
+    }
+}
+
+/// A byte, a wire number or a number.
+fn element(bytes: &[u8]) -> u64 {
+    match bytes {
+        [byte] => u64::from(*byte),
+        [first, second] => u64::from(u16::from_ne_bytes([*first, *second])),
+        number => u64::from_ne_bytes(number.try_into().expect("a number has eight bytes")),
     }
 }
 

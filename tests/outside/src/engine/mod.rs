@@ -1,4 +1,4 @@
-//! The engine under test: the twelve functions of include/calduvren.h, each behind a safe wrapper that lends guarded
+//! The engine under test: the thirteen functions of include/calduvren.h, each behind a safe wrapper that lends guarded
 //! memory and gives back what the call left there.
 
 mod entries;
@@ -52,6 +52,30 @@ pub fn text_part(text: &[u8], table: &[u8], wire: usize) -> Reply {
         )
     };
     lent.reply(status, &numbers, None)
+}
+
+pub fn check_size(text: &[u8], sets_length: usize) -> Reply {
+    let mut lent = Lent::new();
+    let (text, sets) = (lent.bytes_with(text), lent.numbers(sets_length));
+    let numbers = [(); 6].map(|()| lent.number());
+    let base = lent.base();
+    let (text_at, length, sets_at) = (text.at(base), text.elements(), sets.at(base));
+    let [order, shares, masks, wires, bytes, offset] = numbers.map(|number| number.at(base));
+    let status = unsafe {
+        entries::calduvren_check_size(
+            text_at,
+            length,
+            sets_at,
+            sets_length,
+            order,
+            shares,
+            masks,
+            wires,
+            bytes,
+            offset,
+        )
+    };
+    lent.reply(status, &numbers, Some(sets))
 }
 
 pub fn function_check(table: &[u8], shares: usize, masks: usize, function: usize) -> Reply {

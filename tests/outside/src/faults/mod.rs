@@ -5,6 +5,9 @@ mod counts;
 pub mod dependence;
 pub mod isw;
 pub mod notes;
+pub mod plan;
+mod plan_lines;
+pub mod sizes;
 mod sums;
 mod words;
 
@@ -145,6 +148,8 @@ pub fn name_all(tally: &mut Tally) {
     notes::name_all(tally);
     dependence::name_all(tally);
     isw::name_all(tally);
+    sizes::name_all(tally);
+    plan::name_all(tally);
     VERDICTS.iter().for_each(|(name, _, _)| tally.expect_fault(name));
     for name in [TWO_SYMBOLS, NO_SUMS, TURNED_DOWN, NO_TABLE, CLEAN, INVENTED_COUNT] {
         tally.expect_fault(name);

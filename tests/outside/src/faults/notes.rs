@@ -11,7 +11,8 @@ use crate::tally::Tally;
 /// More than a line has.
 const ALL: usize = 1 << 20;
 
-const NOTES: [(&str, Way); 22] = [
+/// Of a refusal. They are faults of the program `plan` too.
+pub const REFUSALS: [(&str, Way); 15] = [
     (
         "a note's offset taken for its line",
         Way {
@@ -117,6 +118,9 @@ const NOTES: [(&str, Way); 22] = [
             ..RIGHT
         },
     ),
+];
+
+const OTHERS: [(&str, Way); 7] = [
     (
         "a note shows the other notion's set",
         Way {
@@ -169,7 +173,7 @@ const NOTES: [(&str, Way); 22] = [
 ];
 
 fn all() -> impl Iterator<Item = &'static (&'static str, Way)> {
-    NOTES.iter().chain(&SUMS).chain(&COUNTS)
+    REFUSALS.iter().chain(&OTHERS).chain(&SUMS).chain(&COUNTS)
 }
 
 pub fn name_all(tally: &mut Tally) {

@@ -1,9 +1,12 @@
 //! The inputs of a run: texts of every kind, sound and damaged, and tables with the calls made on them.
 
+pub mod arguments;
 pub mod calls;
 pub mod damage;
+pub mod files;
 pub mod gadgets;
 pub mod noted;
+pub mod plans;
 pub mod runs;
 pub mod sums;
 pub mod tables;

@@ -2,6 +2,7 @@
 //! can not be written, and texts for its notes, which standard error may not take.
 
 use super::damage::damaged;
+use super::files;
 use super::gadgets::{self, Cross, End};
 use super::noted::{self, broken_at_once};
 use super::sums;
@@ -14,10 +15,8 @@ use crate::model::report::report;
 use crate::model::sets::MAX_SIZE;
 use crate::passes::examples::{A, B};
 use crate::random::Random;
-use std::path::{Path, PathBuf};
+use std::path::PathBuf;
 
-/// The texts of the program `try_report`, and the list of them.
-const TEXTS: &str = "crates/try_report/data";
 const DRAWN: usize = 400;
 const MOST_SETS_OF_DRAWN: u64 = 20_000;
 
@@ -95,21 +94,17 @@ fn long() -> Vec<Case> {
 
 /// Every text of the list, as a file.
 fn of_files() -> Vec<Case> {
-    let read = |path: &Path| std::fs::read(path).unwrap_or_else(|why| panic!("{} can be read: {why}", path.display()));
-    let list = String::from_utf8(read(&Path::new(TEXTS).join("index"))).expect("the list is of plain letters");
-    let case = |line: &str| {
-        let (kind, name) = line.split_once(' ').expect("a line is a word and a name");
-        let path = Path::new(TEXTS).join(name);
-        let text = read(&path);
+    let case = |(kind, path): (String, PathBuf)| {
+        let text = files::read(&path);
         Case {
             call: Call::on(Input::File(path)),
-            expected: match kind {
+            expected: match kind.as_str() {
                 "report" => Expected::Report(text),
                 _ => Expected::Long(text),
             },
         }
     };
-    list.lines().map(case).collect()
+    files::listed().into_iter().map(case).collect()
 }
 
 /// Texts around the limits of length and of bytes, at once, in pieces, without an end, and from a system that is odd.

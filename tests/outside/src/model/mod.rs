@@ -1,4 +1,4 @@
-//! The model: the scope written down a second time, as a program of its own. Here are the twelve entries, each with its
+//! The model: the scope written down a second time, as a program of its own. Here are the thirteen entries, each with its
 //! refusals in the scope's order; the modules hold what they rest on.
 
 pub mod breaking;
@@ -6,10 +6,12 @@ pub mod functions;
 pub mod isw;
 pub mod lines;
 pub mod notes;
+pub mod plan;
 pub mod reading;
 pub mod records;
 pub mod report;
 pub mod sets;
+pub mod sizes;
 pub mod symbols;
 pub mod trees;
 pub mod wires;
@@ -21,6 +23,7 @@ use isw::MAX_ISW_ORDER;
 use reading::Reading;
 use records::{length_is_wrong, parse, tested, to_bytes, MAX_WIRES, RECORD_BYTES};
 use sets::{MAX_JOBS, MAX_SIZE};
+use sizes::Size;
 use trees::Fault;
 
 /// The reply to read_text, from what the text describes.
@@ -52,6 +55,24 @@ pub fn text_part(text: &[u8], table: &[u8], wire: usize) -> Reply {
         return Reply::refused(22);
     }
     Reply::answered(&[offset, length], Vec::new())
+}
+
+/// The reply to check_size, from the size of the text's check.
+pub fn check_size(size: &Result<Size, Fault>, sets_length: usize) -> Reply {
+    match size {
+        Ok(size) if sets_length < size.order => Reply::refused(16),
+        Ok(size) => {
+            let numbers = [size.order, size.shares, size.masks, size.wires, size.bytes];
+            let mut reply = Reply::answered(&numbers.map(|number| number as u64), Vec::new());
+            reply.sets = size.sets.clone();
+            reply
+        }
+        Err(fault) => {
+            let mut reply = Reply::refused(fault.cause.number_and_word().0);
+            reply.numbers[5] = Some(fault.offset as u64);
+            reply
+        }
+    }
 }
 
 pub fn function_check(table: &[u8], shares: usize, masks: usize, function: usize) -> Reply {

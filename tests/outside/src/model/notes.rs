@@ -1,5 +1,5 @@
 //! The notes on a report: what the program `report` says on standard error, before the report and after it. They follow
-//! from the text and the report alone.
+//! from the text and the report alone. Those on a refusal are the program `plan`'s too.
 
 use super::breaking::{shares_of_a, shares_of_b, NI, SNI};
 use super::functions::{own_sum, sum_of_outputs, COPY, PRODUCT, SUM};
@@ -12,8 +12,8 @@ use super::symbols::names;
 use super::trees::{Cause, Fault};
 
 pub const SETS_IN_A_SECOND: u64 = 10_000_000;
-const REPLACED: &str = "report: ? stands for a byte that is no printing ASCII character: a tab is no space here, and \
-    byte 13 (carriage return) no line end\n";
+const REPLACED: &str = "? stands for a byte that is no printing ASCII character: a tab is no space here, and byte 13 \
+    (carriage return) no line end";
 
 pub struct Notes {
     /// That the check is long, where it is, and then also in what the function differs, where it is another one.
@@ -26,6 +26,8 @@ pub type Shown = Option<Vec<usize>>;
 
 /// How notes are written. The right way is `RIGHT`; the faults of the self-check put one wrong thing in its place.
 pub struct Way {
+    /// The program that writes them.
+    pub program: &'static str,
     /// No more bytes than these are taken for the text.
     pub most_bytes: usize,
     /// What the output lines add up to, which function that is compared with where it is none, that function's own sum
@@ -62,6 +64,7 @@ pub struct Way {
 }
 
 pub const RIGHT: Way = Way {
+    program: "report",
     // One more than a text may have, which tells that it is too long.
     most_bytes: MAX_TEXT_BYTES + 1,
     outputs: sum_of_outputs,
@@ -135,9 +138,10 @@ impl Way {
         format!("report: up to {sets} sets to look at, some {time}; {advice}\n").into_bytes()
     }
 
-    fn on_refusal(&self, text: &[u8], Fault { offset, cause }: Fault) -> Vec<u8> {
+    pub fn on_refusal(&self, text: &[u8], Fault { offset, cause }: Fault) -> Vec<u8> {
         let (line, byte) = ((self.line)(text, offset), (self.byte)(text, offset));
-        let mut notes = format!("report: line {line}, byte {byte}: {}\n", (self.meaning)(cause)).into_bytes();
+        let (program, meaning) = (self.program, (self.meaning)(cause));
+        let mut notes = format!("{program}: line {line}, byte {byte}: {meaning}\n").into_bytes();
         let around = line_of(text, offset);
         if !around.is_empty() {
             let view = (self.view)(&text[around.clone()], offset - around.start);
@@ -145,7 +149,7 @@ impl Way {
             notes.extend(view.shown);
             notes.extend(format!("\n    {}^\n", " ".repeat(view.mark)).bytes());
             if view.replaced {
-                notes.extend(REPLACED.bytes());
+                notes.extend(format!("{program}: {REPLACED}\n").bytes());
             }
         }
         notes
@@ -191,8 +195,11 @@ pub fn sets(wires: usize, order: usize) -> u64 {
     2 * (1..=order).map(|size| count(wires, size)).sum::<u64>()
 }
 
-fn time(seconds: u64) -> String {
+/// Of `report` no check is said to be long that takes less than five seconds.
+pub fn time(seconds: u64) -> String {
     match seconds {
+        0 => String::from("less than a second"),
+        1 => String::from("1 second"),
         ..120 => format!("{seconds} seconds"),
         ..7_200 => format!("{} minutes", seconds / 60),
         ..172_800 => format!("{} hours", seconds / 3_600),

@@ -83,7 +83,7 @@ fn every_set(tally: &mut Tally, call: &TableCall, wires: usize) {
 fn breaks_as_in_range(tally: &mut Tally, call: &TableCall, notion: usize, set: &[u16]) {
     let numbers = [call.shares, call.masks, notion];
     let breaks = match engine::set_dependence(&call.table, numbers, set).numbers {
-        [Some(of_a), Some(of_b), Some(allowed), Some(masked), _] => masked == 0 && of_a.max(of_b) > allowed,
+        [Some(of_a), Some(of_b), Some(allowed), Some(masked), ..] => masked == 0 && of_a.max(of_b) > allowed,
         _ => return,
     };
     let (rank, size) = (rank(set), set.len());
@@ -105,14 +105,14 @@ fn ask(tally: &mut Tally, call: &TableCall, notion: usize, set: &[u16]) {
     let model = model::set_dependence(&call.table, numbers, set);
     let input = || format!("notion {notion} set {set:?} {}", call.show());
     tally.compare(Entry::SetDependence, word(&model), &model, &reply, input);
-    if let [Some(of_a), Some(of_b), Some(allowed), Some(masked), _] = model.numbers {
+    if let [Some(of_a), Some(of_b), Some(allowed), Some(masked), ..] = model.numbers {
         let right = [of_a, of_b, allowed, masked];
         faults::dependence::set_dependence(tally, right, &parse(&call.table), set, &reply);
     }
 }
 
 pub fn word(model: &Reply) -> &'static str {
-    let [Some(of_a), Some(of_b), Some(allowed), Some(masked), _] = model.numbers else {
+    let [Some(of_a), Some(of_b), Some(allowed), Some(masked), ..] = model.numbers else {
         return "";
     };
     match (masked, of_a > allowed, of_b > allowed) {

@@ -13,6 +13,9 @@ const C: &str = "ORDER = 1\nMASKS = []\na0 b0\na1 b1\n";
 /// The order 2 example of source 002.
 const ORDER_2: &str = "ORDER = 2\nMASKS = [r0, r1, r2]\ns00 r0 s01 s10 r1\ns11 r1 s12 s21 r2\ns22 r2 s20 s02 r0\n";
 
+/// Of 512 wires, one for the symbol of the first line, one for each addition there and one for each other line.
+const ADDITIONS: usize = 507;
+
 const PAIRS: [[u16; 2]; 6] = [[0, 1], [1, 2], [0, 2], [2, 3], [1, 3], [0, 3]];
 
 pub fn run(_: &mut Random, tally: &mut Tally) {
@@ -20,6 +23,7 @@ pub fn run(_: &mut Random, tally: &mut Tally) {
     reports(&mut right);
     limits(&mut right);
     numbering(&mut right);
+    sizes(&mut right);
     let as_printed = right.iter().filter(|(_, right)| *right).count();
     tally.say(format!(
         "examples        {} of the scope, {as_printed} as printed there",
@@ -103,4 +107,26 @@ fn numbering(right: &mut Examples) {
     right.push(("their ranks", ranks.eq((0..6).map(Some))));
     let empty_set = |notion| engine::range_check(&[], [2, 0, notion, 0, 0], [0, 1]) == answered(&[1]);
     right.push(("the empty set breaks nothing", empty_set(1) && empty_set(2)));
+}
+
+/// The numbers of wires and of sets that the scope prints, told from texts that have them.
+fn sizes(right: &mut Examples) {
+    let told = |text: &str, numbers: [u64; 5], sets: &[u64]| {
+        let mut wanted = Reply::answered(&numbers, Vec::new());
+        wanted.sets = sets.to_vec();
+        engine::check_size(text.as_bytes(), 7) == wanted
+    };
+    right.push(("A's size", told(A, [1, 2, 1, 9, 216], &[9])));
+    let order_2 = told(ORDER_2, [2, 3, 3, 24, 576], &[24, 276]);
+    right.push(("276 pairs, from the text", order_2));
+    let text = format!(
+        "ORDER = 4\nMASKS = []\na0{}{}\n",
+        " a0".repeat(ADDITIONS),
+        "\na0".repeat(4)
+    );
+    let sets = [512, 130_816, 22_238_720, 2_829_877_120];
+    right.push((
+        "512 wires, size 4, from a text",
+        told(&text, [4, 5, 0, 512, 12_288], &sets),
+    ));
 }

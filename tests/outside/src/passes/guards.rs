@@ -6,6 +6,8 @@ use crate::random::Random;
 use crate::tally::Tally;
 
 const GUARDED: isize = 64;
+/// As many as one more than there are sizes of sets.
+const NUMBERS: usize = 8;
 
 pub fn run(random: &mut Random, tally: &mut Tally) {
     let mut seen = 0;
@@ -13,7 +15,10 @@ pub fn run(random: &mut Random, tally: &mut Tally) {
         seen += u32::from(stray_byte_is_seen(random, place));
     }
     seen += u32::from(altered_number_is_seen()) + u32::from(altered_input_is_seen());
-    let made = 2 * GUARDED as u32 + 2;
+    seen += (0..NUMBERS)
+        .map(|place| u32::from(altered_in_a_row_is_seen(place)))
+        .sum::<u32>();
+    let made = 2 * GUARDED as u32 + 2 + NUMBERS as u32;
     tally.say(format!("guards          {made} stray writes made, {seen} seen"));
     if seen != made {
         tally.differs(|| String::from("guards: a stray write is not seen"));
@@ -36,6 +41,16 @@ fn altered_number_is_seen() -> bool {
     let number_at: *mut u64 = number.at(lent.base());
     unsafe { *number_at = 1 };
     lent.reply(11, &[number], None).numbers[0] == Some(1)
+}
+
+/// Of lent numbers that lie in a row one is altered, in its highest byte alone.
+fn altered_in_a_row_is_seen(place: usize) -> bool {
+    let mut lent = Lent::new();
+    let row = lent.numbers(NUMBERS);
+    let row_at: *mut u64 = row.at(lent.base());
+    unsafe { *row_at.add(place) ^= 1 << 63 };
+    let reply = lent.reply(0, &[], Some(row));
+    reply.sets.len() == place + 1 && reply.sets[place] >> 63 == 0 && reply.rest_kept
 }
 
 fn altered_input_is_seen() -> bool {

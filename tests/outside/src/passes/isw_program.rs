@@ -4,11 +4,12 @@
 use super::programs::{show_some, LIMIT};
 use crate::child::{Call, Error, Input, Outcome, Output};
 use crate::faults;
+use crate::inputs::arguments::{self, NO_NUMBERS};
 use crate::model::isw::{program, MAX_ISW_ORDER, MOST_DIGITS, REFUSED, USAGE};
 use crate::random::Random;
 use crate::tally::Tally;
 use std::ffi::OsString;
-use std::os::unix::ffi::{OsStrExt, OsStringExt};
+use std::os::unix::ffi::OsStrExt;
 
 const PROGRAM: &str = "target/bin/isw";
 
@@ -28,41 +29,6 @@ const OUTSIDE: [&str; 14] = [
     "9223372036854775809",
     "18446744073709551617",
     "340282366920938463463374607431",
-];
-
-/// Arguments that are no number, each alone.
-const NO_NUMBERS: [&[u8]; 30] = [
-    b"",
-    b" ",
-    b" 1",
-    b"1 ",
-    b"1\n",
-    b"\t1",
-    b"1 2",
-    b"00",
-    b"01",
-    b"07",
-    b"007",
-    b"+1",
-    b"-1",
-    b"-0",
-    b"a",
-    b"1a",
-    b"a1",
-    b"1.0",
-    b"1,",
-    b"0x1",
-    b"1e0",
-    b"0b1",
-    b"r0",
-    b"-h",
-    b"--help",
-    b"--",
-    // The digit's neighbours in ASCII, a digit of another script, and a byte that begins no character.
-    b"/",
-    b":",
-    b"\xD9\xA1",
-    b"1\xFF",
 ];
 
 const SEVERAL: [&[&str]; 6] = [&[], &["1", "2"], &["1", ""], &["", "1"], &["--", "1"], &["1", "2", "3"]];
@@ -107,9 +73,8 @@ fn calls() -> Vec<Call> {
         numbers.push(format!("{}1", "0".repeat(digits - 1)));
     }
     let mut calls: Vec<Call> = numbers.iter().map(|number| on(&[number])).collect();
-    let argument = |bytes: &[u8]| OsString::from_vec(bytes.to_vec());
     calls.extend(NO_NUMBERS.map(|bytes| Call {
-        arguments: vec![argument(bytes)],
+        arguments: arguments::of(&[bytes]),
         ..on(&[])
     }));
     calls.extend(SEVERAL.map(on));

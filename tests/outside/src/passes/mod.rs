@@ -10,11 +10,13 @@ mod isw_program;
 mod jobs;
 mod large;
 mod noted;
+mod plan_program;
 mod programs;
 mod ranges;
 mod refusals;
 mod reports;
 mod sets;
+mod sizes;
 mod stack;
 mod texts;
 mod verdicts;
@@ -27,7 +29,7 @@ use crate::tally::Tally;
 
 type Pass = fn(&mut Random, &mut Tally);
 
-const PASSES: [Pass; 18] = [
+const PASSES: [Pass; 20] = [
     guards::run,
     examples::run,
     sets::run,
@@ -46,6 +48,8 @@ const PASSES: [Pass; 18] = [
     words::run,
     isw::run,
     isw_program::run,
+    sizes::run,
+    plan_program::run,
 ];
 
 pub fn run_all(seed: u64, tally: &mut Tally) {

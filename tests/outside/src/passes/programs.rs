@@ -4,7 +4,7 @@
 //! byte.
 
 use super::{noted, words};
-use crate::child::{Error, Input, Outcome};
+use crate::child::{run_all, Error, Input, Outcome};
 use crate::faults;
 use crate::inputs::calls::show_text;
 use crate::inputs::runs::{self, Case, Expected};
@@ -13,9 +13,6 @@ use crate::model::reading::MAX_TEXT_BYTES;
 use crate::model::report::report;
 use crate::random::Random;
 use crate::tally::Tally;
-use std::sync::atomic::{AtomicUsize, Ordering};
-use std::sync::Mutex;
-use std::thread::scope;
 use std::time::Duration;
 
 const PROGRAM: &str = "target/bin/report";
@@ -56,7 +53,7 @@ pub fn run(random: &mut Random, tally: &mut Tally) {
     noted::expect(tally);
     words::expect(tally);
     let cases = runs::all(random);
-    for (case, model, outcome) in run_cases(&cases) {
+    for (case, (model, outcome)) in run_all(&cases, AT_A_TIME, Case::run, Case::hangs) {
         tally.occurs("program", kind(case, &model));
         if let Expected::Late(_, size) = case.expected {
             assert_eq!(
@@ -95,29 +92,17 @@ fn compare_with_faults(tally: &mut Tally, case: &Case, text: &[u8], report: &str
     }
 }
 
-/// Each case with what the model says and what came of it. After a child that hangs no other is started.
-fn run_cases(cases: &[Case]) -> Vec<(&Case, Model, Outcome)> {
-    let next = AtomicUsize::new(0);
-    let done = Mutex::new(Vec::new());
-    let work = || {
-        while let Some(case) = cases.get(next.fetch_add(1, Ordering::Relaxed)) {
-            let outcome = case.call.run(PROGRAM, case.limit());
-            if outcome.status.is_none() && case.limit() == LIMIT {
-                next.store(cases.len(), Ordering::Relaxed);
-            }
-            let model = case.model();
-            done.lock().expect("no work panics").push((case, model, outcome));
-        }
-    };
-    scope(|threads| {
-        (0..AT_A_TIME).for_each(|_| {
-            threads.spawn(work);
-        });
-    });
-    done.into_inner().expect("no work panics")
-}
-
 impl Case {
+    /// What the model says, and what came of it.
+    fn run(&self) -> (Model, Outcome) {
+        let outcome = self.call.run(PROGRAM, self.limit());
+        (self.model(), outcome)
+    }
+
+    fn hangs(&self, (_, outcome): &(Model, Outcome)) -> bool {
+        outcome.status.is_none() && self.limit() == LIMIT
+    }
+
     fn limit(&self) -> Duration {
         match self.expected {
             Expected::Long(_) => LIMIT_OF_LONG,

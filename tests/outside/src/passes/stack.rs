@@ -12,6 +12,7 @@ use crate::model::reading::{read, MAX_TEXT_BYTES};
 use crate::model::records::{to_bytes, MAX_SHARES, MAX_TABLE_BYTES, MAX_WIRES, RECORD_BYTES};
 use crate::model::report::report;
 use crate::model::sets::{count, from_rank, MAX_JOBS, MAX_SIZE};
+use crate::model::sizes::Size;
 use crate::random::Random;
 use crate::reply::Reply;
 use crate::tally::Tally;
@@ -124,8 +125,8 @@ fn calls_on_text(text: &[u8]) -> Vec<Call> {
     let report = model::report_text(&report, REPORT_BYTES);
     let table = to_bytes(&reading.wires);
     let part = model::text_part(text, &table, MAX_WIRES - 1);
-    let texts = [text.to_vec(), text.to_vec(), text.to_vec()];
-    let [read, reported, parted] = texts;
+    let size = model::check_size(&Size::of(text), MAX_SIZE);
+    let [read, reported, parted, sized] = [(); 4].map(|()| text.to_vec());
     vec![
         call(Entry::ReadText, "read", reply, move || {
             engine::read_text(&read, MAX_TABLE_BYTES)
@@ -135,6 +136,9 @@ fn calls_on_text(text: &[u8]) -> Vec<Call> {
         }),
         call(Entry::TextPart, "answered", part, move || {
             engine::text_part(&parted, &table, MAX_WIRES - 1)
+        }),
+        call(Entry::CheckSize, "told", size, move || {
+            engine::check_size(&sized, MAX_SIZE)
         }),
     ]
 }

@@ -119,7 +119,7 @@ fn operands_are_right(
     tally.occurs("  leaks", LEAKS[notion - 1][kind]);
     let reply = engine::set_dependence(&call.table, [call.shares, call.masks, notion], set);
     match reply.numbers {
-        [Some(of_a), Some(of_b), Some(allowed), Some(0), None] => {
+        [Some(of_a), Some(of_b), Some(allowed), Some(0), None, None] => {
             reply.rest_kept && leaks == [of_a, of_b].map(|count| count > allowed)
         }
         _ => false,
