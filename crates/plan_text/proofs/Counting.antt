@@ -17,7 +17,8 @@ use Rattle.plan_text.specs.Answers.{setCounts, counted}
 module _ (wires : ℕ) where
   pub counts-length : (order : ℕ) → length (setCounts wires order) ≡ order
   counts-length zero = refl
-  counts-length (suc k) = omega (arith, length-append (setCounts wires k) (binom wires (suc k) ∷ []), counts-length k)
+  counts-length (suc k) =
+      let next : k + 1 ≡ suc k = omega arith in length-append (setCounts wires k) _ ∙ ap (λ (n : ℕ). n + 1) (counts-length k) ∙ next
 
   pub counted-length : (order : ℕ) → order ≤ maxOrder → length (counted wires order) ≡ maxOrder
   counted-length order low =
@@ -43,9 +44,9 @@ module _ (wires : ℕ) where
           go (inr e) = inr (ap suc e)
 
       go : (k < n) ⊎ (k ≡ n) → (k < n → getD (setCounts wires n) k 0 ≡ binom wires (suc k)) → getD (setCounts wires (suc n)) k 0 ≡ binom wires (suc k)
-      go (inl l) ih = List·getD-append (setCounts wires n) (binom wires (suc n) ∷ []) 0 k (omega (arith, l, counts-length n)) ∙ ih l
+      go (inl l) ih = List·getD-append (setCounts wires n) _ 0 k (omega (arith, l, counts-length n)) ∙ ih l
       go (inr e) ih =
-          getD-at (setCounts wires n) (binom wires (suc n)) [] 0 k (counts-length n ∙ sym e) ∙ ap (λ (m : ℕ). binom wires (suc m)) (sym e)
+          getD-at (setCounts wires n) _ [] 0 k (counts-length n ∙ sym e) ∙ ap (λ (m : ℕ). binom wires (suc m)) (sym e)
 
   pub counted-at : (order k : ℕ) → k < order → getD (counted wires order) k 0 ≡ binom wires (suc k)
   counted-at order k h =
