@@ -7,18 +7,15 @@
 use Prim.Native.Nat.{ℕ, _*_, _-_, _≤_, _<_}
 use native.Mathlib.Omega.{arith}
 use mathlib.Core.Path.{_≡_, refl, sym, _∙_, ap, ap₂, subst}
-use mathlib.Core.Bool.{Bool, cond}
 use mathlib.Core.List.{List, [], _∷_}
 use lib.ListN.{length, take}
 use borrow.Author.Tests.{lt-ltb, le-ltb}
 use Rattle.limits.specs.Limits.{recordBytes}
-use Rattle.basics.specs.Told.{Lent, values, turnedDown}
+use Rattle.basics.specs.Told.{values, turnedDown}
 use Rattle.description.specs.Run as description
 use Rattle.reader.specs.declared.ReadAnswer.{ReadAnswer}
 use Rattle.reader.specs.Answers.{ReadLent, readTold, readText}
 use Rattle.reader.specs.Reads.{ReadsGrammar}
-use Rattle.verdict_answers.specs.declared.Refusal.{Refusal}
-use Rattle.verdict_answers.specs.Answers as verdicts
 use Rattle.description.specs.declared.Refusal as reading
 use Rattle.report_text.specs.declared.Refusal as report-texts
 use Rattle.report_text.specs.declared.ReportAnswer.{ReportAnswer}
@@ -70,25 +67,17 @@ module _ (answer : ReadAnswer) (text held : List ℕ) where
 
 -- ---- the entry
 
-abbrev shown : List ℕ → List ℕ → Lent
-shown report buffer = record { told = values (length report ∷ []); held = verdicts.written report buffer }
-
 module _ (text buffer blank page : List ℕ) (end : ℕ) (wrote : Wrote blank 0 (report text) page end) where
   pub report-short : length buffer < end → turnedDown 16 buffer ≡ reportText text buffer
-  report-short h =
-      let size = wrote .end-is in
-      ap (λ (b : Bool). cond b (turnedDown 16 buffer) (shown (report text) buffer))
-      (sym (lt-ltb (length buffer) (length (report text)) (omega (arith, h, size))))
+  report-short h = let size = wrote .end-is in simp (lt-ltb (length buffer) (length (report text)) (omega (arith, h, size)))
 
-  pub report-written : (held : List ℕ) → end ≤ length buffer
-      → held ≡ copied page end buffer
+  pub report-written : (held : List ℕ) → end ≤ length buffer → held ≡ copied page end buffer
       → record { told = values (end ∷ []); held = held } ≡ reportText text buffer
   report-written held h e =
       let c = copied-start blank (report text) page end buffer held wrote e in
       let size = c .0 in
-      ap₂ (λ (n : ℕ) (l : List ℕ). record { told = values (n ∷ []); held = l }) size (c .1)
-      ∙ ap (λ (b : Bool). cond b (turnedDown 16 buffer) (shown (report text) buffer))
-      (sym (le-ltb (length buffer) (length (report text)) (omega (arith, h, size))))
+      simp (le-ltb (length buffer) (length (report text)) (omega (arith, h, size)))
+      (ap₂ (λ (n : ℕ) (l : List ℕ). record { told = values (n ∷ []); held = l }) size (c .1))
 
 apart : (why : report-texts.Refusal) (size : ℕ) → ReportAnswer.Refused why ≡ ReportAnswer.Written size → ⊥
 apart why size e = let z : _≡_ {A = ℕ} 0 1 = cc in omega (arith, z)
