@@ -1,10 +1,10 @@
-# What the scripts ./report and ./isw have in common: each prints what a program of this folder prints, and builds and
-# proves the program first where that is to be done. The script that reads this file has set
+# What the scripts ./report, ./isw and ./plan have in common: each prints what a program of this folder prints, and
+# builds and proves the program first where that is to be done. The script that reads this file has set
 #     name       the program's, which is its crate's too
 #     usage      the line for one who calls it in another way
 #     failing    how a line begins by which the program says that it has not printed what was asked for
 #     folder     where the script stands, which may be called by a link
-# looks at its arguments, and calls `have_program` and `run_program`.
+# looks at its arguments, and calls `open_text`, where its program reads a text, `have_program` and `run_program`.
 
 say() {
     printf '%s: %s\n' "$name" "$1" >&2 || :
@@ -21,6 +21,23 @@ show_usage() {
 # ---- what is lent: a closed descriptor would be taken for the next file that is opened
 (true 3>&2) || exec 2> /dev/null
 (true 3>&1) 2> /dev/null || give_up "standard output is closed"
+
+# usage: open_text NAME
+# Has the text of a file come from standard input, which `-` leaves as it is.
+open_text() {
+    case $1 in
+    -)
+        (true 3<&0) 2> /dev/null || give_up "standard input is closed"
+        [ ! -t 0 ] || say "reading the text from the terminal; Ctrl-D ends it"
+        ;;
+    -*) give_up "$usage; a name that begins with a dash is given as ./-name" ;;
+    *)
+        [ ! -d "$1" ] || give_up "'$1' is a folder, and not a file"
+        [ -r "$1" ] || give_up "there is no file '$1' that can be read"
+        exec < "$1"
+        ;;
+    esac
+}
 
 # ---- the program, proved and built where it is not
 program=target/bin/$name
@@ -64,7 +81,7 @@ forget_changed() {
     fi
 }
 
-# The files by which it goes are the program's own, so that where nothing locks, the other program's build leaves them.
+# The files by which it goes are the program's own, so that where nothing locks, another program's build leaves them.
 build() {
     say "building: every function is proved first, which takes some minutes"
     start=target/$name.start

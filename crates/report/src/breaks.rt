@@ -1,10 +1,10 @@
 // The wires of a break, each with the part of the text that computes it, and on how many shares of each operand they depend.
 ghost use Prim.Native.Nat.{_≤_, _<_};
 ghost use lib.ListN.{length};
-use crate::lines;
-use crate::saying::say;
-use crate::saying::say_number;
 use crate::symbols::say_symbols;
+use console::lines;
+use console::saying::say;
+use console::saying::say_number;
 use limits::MAX_SIZE;
 use limits::RECORD_BYTES;
 use reader::PartAnswer;

@@ -1,8 +1,8 @@
 // What keeps the output lines from adding up to a function.
-use crate::saying::say;
 use crate::symbols::names_product;
 use crate::symbols::names_share_b;
 use crate::symbols::say_symbols;
+use console::saying::say;
 use limits::MAX_SHARES;
 use record_words::functions::function_record;
 use records::sums::Sum;

@@ -4,33 +4,29 @@
 ghost use Prim.Native.Nat.{_≤_};
 ghost use lib.ListN.{length};
 ghost use Rattle.report_text.specs.Report.{maxReport};
-use libc::STDOUT_FILENO;
+use console::input::INPUT_BYTES;
+use console::input::read_input;
+use console::output;
+use console::refusals;
 use limits::MAX_TABLE_BYTES;
 use limits::RECORD_BYTES;
 use reader::ReadAnswer;
-use report_text::INPUT_BYTES;
 use report_text::MAX_REPORT;
 use report_text::ReportAnswer;
 
 mod breaks;
 mod functions;
-mod input;
-mod lines;
-mod refusals;
-mod saying;
 mod sizes;
 mod symbols;
 
 fn main() {
     let mut text = [0u8; INPUT_BYTES];
-    let input = input::read_input(&mut text);
+    let input = read_input(b"report: standard input", &mut text);
     // a text that was read in part is no text
-    if !input.is_whole {
-        os::fail(b"report: standard input");
-        return;
+    if input.is_whole {
+        let length = input.length;
+        answer(&text[0..length]);
     }
-    let length = input.length;
-    answer(&text[0..length]);
 }
 
 // The text is read here too, for the notes: the report itself is only printed.
@@ -41,7 +37,7 @@ fn answer(text: &[u8]) {
         ReadAnswer::Refused { why, offset } => {
             let mut page = [0u8; MAX_REPORT];
             if print_report(text, &mut page) > 0 {
-                refusals::explain(text, why, offset);
+                refusals::explain(b"report", text, why, offset);
             }
         }
         ReadAnswer::Read {
@@ -50,14 +46,14 @@ fn answer(text: &[u8]) {
             masks,
             wires,
         } => {
-            answer_read(text, &table[0..RECORD_BYTES * wires], order, shares, masks);
+            answer_read(text, &table[0..RECORD_BYTES * wires], shares, masks);
         }
     }
 }
 
 // The report on a text that was read. Before a search that may take days all is said that is known without it.
-fn answer_read(text: &[u8], table: &[u8], order: usize, shares: usize, masks: usize) {
-    let sets = sizes::sets_of_both(table.len() / RECORD_BYTES, order);
+fn answer_read(text: &[u8], table: &[u8], shares: usize, masks: usize) {
+    let sets = sizes::sets_to_look_at(text);
     let is_long = sizes::is_long(sets);
     if is_long {
         functions::explain(table, shares, masks);
@@ -79,10 +75,9 @@ fn print_report(text: &[u8], page: &mut [u8]) -> usize
     let answer = report_text::report(text, page);
     match answer {
         ReportAnswer::Written { length } => {
-            if io::write_all(STDOUT_FILENO, &page[0..length]) {
+            if output::print(b"report: standard output", &page[0..length]) {
                 return length;
             }
-            os::fail(b"report: standard output");
             0
         }
         // a page of MAX_REPORT bytes is never too short

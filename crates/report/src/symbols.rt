@@ -2,7 +2,7 @@
 ghost use Prim.Native.Nat.{_≤_, _<_};
 ghost use Rattle.record_words.specs.Symbols.{Small};
 ghost use Rattle.report.specs.Symbols.{symbolCount};
-use crate::saying::say_number;
+use console::saying::say_number;
 use limits::MAX_MASKS;
 use limits::MAX_SHARES;
 use record_words::symbols::is_in;

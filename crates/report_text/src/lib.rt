@@ -4,15 +4,11 @@
 ghost use mathlib.Core.Path.{_≡_};
 ghost use lib.ListN.{length};
 ghost use Rattle.report_text.specs.Report.{refusalNumber, reportTold, reportText, RoomEnough};
-use description::MAX_TEXT_BYTES;
 
 mod lines;
 
 // A buffer of so many bytes is never too short.
 pub const MAX_REPORT: usize = 512;
-
-// A byte more than a text may have: a program that reads so many refuses a longer input, however much comes.
-pub const INPUT_BYTES: usize = MAX_TEXT_BYTES + 1;
 
 // Why a report is not written. The scope has no refusal for it; the number is that of an answer buffer that is too short.
 pub enum Refusal {

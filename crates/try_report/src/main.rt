@@ -3,11 +3,11 @@
 // line of its own. `tests/try_report.py` writes the files, and works the output out from the scope.
 ghost use Prim.Native.Nat.{_≤_};
 use bytes::scan::find;
+use console::input::INPUT_BYTES;
 use limits::MAX_TABLE_BYTES;
 use limits::MAX_WIRES;
 use limits::RECORD_BYTES;
 use reader::ReadAnswer;
-use report_text::INPUT_BYTES;
 use report_text::MAX_REPORT;
 use report_text::ReportAnswer;
 use table::FunctionAnswer;

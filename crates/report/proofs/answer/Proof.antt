@@ -19,6 +19,9 @@ slice-aggregate-print-report c = search needs
 print-report-requires : tie.Need-print-report-requires
 print-report-requires c κs = search needs
 
+slice-aggregate-explain : tie.Need-slice-aggregate-explain
+slice-aggregate-explain c = search needs
+
 explain-requires : tie.Need-explain-requires
 explain-requires c κs = search needs
 
@@ -60,6 +63,7 @@ answer-spec =
     enum-known-read
     slice-aggregate-print-report
     print-report-requires
+    slice-aggregate-explain
     explain-requires
     enum-known-read-2
     mul-answer-read

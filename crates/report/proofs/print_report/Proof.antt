@@ -9,31 +9,28 @@ report-requires c κs = search needs
 enum-known-answer : tie.Need-enum-known-answer
 enum-known-answer c = search needs
 
-sub-write-all : tie.Need-sub-write-all
-sub-write-all c = search needs
+slice-aggregate-print : tie.Need-slice-aggregate-print
+slice-aggregate-print c = search needs
 
-part-write-all-start : tie.Need-part-write-all-start
-part-write-all-start c = search needs
+sub-print : tie.Need-sub-print
+sub-print c = search needs
 
-part-write-all-end : tie.Need-part-write-all-end
-part-write-all-end c =
-    let short = c .before .before .before .before .before .before .report .ensures .1 .short _ (c .before .before .answer .given .1) in search needs
+part-print-start : tie.Need-part-print-start
+part-print-start c = search needs
 
-write-all-requires : tie.Need-write-all-requires
-write-all-requires c κs = search needs
+part-print-end : tie.Need-part-print-end
+part-print-end c =
+    let short = c .before .before .before .before .before .before .before .report .ensures .1 .short _ (c .before .before .before .answer .given .1) in search needs
+
+print-requires : tie.Need-print-requires
+print-requires c κs = search needs
 
 same-length : tie.Need-same-length
 same-length c = search needs
 
 returns : tie.Need-returns
 returns c =
-    let short = c .before .before .before .before .before .before .before .before .before .report .ensures .1 .short _ (c .before .before .before .before .before .answer .given .1) in search needs
-
-slice-aggregate-fail : tie.Need-slice-aggregate-fail
-slice-aggregate-fail c = search needs
-
-fail-requires : tie.Need-fail-requires
-fail-requires c κs = search needs
+    let short = c .before .before .before .before .before .before .before .before .before .before .report .ensures .1 .short _ (c .before .before .before .before .before .before .answer .given .1) in search needs
 
 enum-known-answer-2 : tie.Need-enum-known-answer-2
 enum-known-answer-2 c = search needs
@@ -56,14 +53,13 @@ print-report-spec =
     (tie.spec
     report-requires
     enum-known-answer
-    sub-write-all
-    part-write-all-start
-    part-write-all-end
-    write-all-requires
+    slice-aggregate-print
+    sub-print
+    part-print-start
+    part-print-end
+    print-requires
     same-length
     returns
-    slice-aggregate-fail
-    fail-requires
     enum-known-answer-2
     same-length-2
     returns-2

@@ -1,0 +1,3 @@
+-- What the functions of `console` need, and what a word of digits is worth.
+--     Digits     a number as a word of digits
+pub mod Digits
