@@ -1,8 +1,7 @@
 -- The numbers of sets beside the answer.
 --     counts-length, counted-length     there is one for each size up to the order; with the rest, one for each size up to the highest order
 --     counts-at, counted-at, counted-rest     of size k at k - 1; above the order, 0
---     counted-front                     those up to the order
---     counted-none, counted-more        none, and one size more
+--     counted-more                      one size more
 use Prim.Native.Nat.{ℕ, zero, suc, _+_, _-_, _≤_, _<_}
 use native.Mathlib.Omega.{arith}
 use mathlib.Core.Path.{_≡_, refl, sym, _∙_, ap, ap₂}
@@ -51,12 +50,6 @@ module _ (wires : ℕ) where
   pub counted-at : (order k : ℕ) → k < order → getD (counted wires order) k 0 ≡ binom wires (suc k)
   counted-at order k h =
       List·getD-append (setCounts wires order) (replicate (maxOrder - order) 0) 0 k (omega (arith, h, counts-length order)) ∙ counts-at order k h
-
-  pub counted-front : (order : ℕ) → take order (counted wires order) ≡ setCounts wires order
-  counted-front order = take-at (setCounts wires order) (replicate (maxOrder - order) 0) order (counts-length order)
-
-  pub counted-none : replicate maxOrder 0 ≡ counted wires 0
-  counted-none = refl
 
   pub counted-more : (held : List ℕ) (i : ℕ) → i < maxOrder → held ≡ counted wires i → set held i (binom wires (i + 1)) ≡ counted wires (i + 1)
   counted-more held i h e =

@@ -1,7 +1,7 @@
 -- The words of `SizeSays` fix the answer: whatever they are true of tells what the definition tells.
 --     says-once     two answers of which they are true tell the same
 --     says-told     they are true of nothing but what the definition tells
---     never-ten     10 is for a description of over 512 wires alone
+--     never-ten, many-ten     10 is for a description of over 512 wires alone, and for each that is within the limits
 use Prim.Native.Nat.{ℕ, suc, _+_, _-_, _*_, _≤_, _<_}
 use native.Mathlib.Omega.{arith}
 use mathlib.Core.Path.{_≡_, refl, sym, _∙_, ap, ap₂, subst}
@@ -15,7 +15,7 @@ use Rattle.limits.specs.Limits.{maxOrder, maxWires, recordBytes}
 use Rattle.basics.specs.Told.{values}
 use Rattle.sets.specs.Answers.{setCount}
 use Rattle.description.specs.Run.{Reading, read, turnedDown, reading, refusalNumber}
-use Rattle.description.specs.Grammar.{Description, Spells, wiresOf, maskCount}
+use Rattle.description.specs.Grammar.{Description, Spells, Limits, wiresOf, maskCount}
 use Rattle.description.specs.declared.Listed.{Listed}
 use Rattle.description.specs.declared.Refusal.{Refusal}
 use Rattle.description.proofs.Exactly.{spelled-read, read-spelled, spelled-limits}
@@ -130,3 +130,7 @@ module _ (text : List ℕ) where
       let both = sym e ∙ spelled-read text d spells limits in
       let same : wiresOf (o .description) ≡ wiresOf d = cc in
       subst (λ (l : List Listed). maxWires < length l) same (o .many)
+
+  pub many-ten : (why : Refusal) (offset : ℕ) (s : List ℕ) → SizeSays (SizeAnswer.Refused why offset) s text
+      → (d : Description) → Spells text d → Limits text d → maxWires < length (wiresOf d) → refusalNumber why ≡ 10
+  many-ten why offset s says d spells limits many = says .0 .ten .1 (record { description = d; spells = spells; limits = limits; many = many })

@@ -9,7 +9,7 @@ use lib.ListN.{length, drop}
 use Rattle.description.specs.Bytes.{space, lineEnd, opening, closing, bar, word}
 use Rattle.description.specs.Header.{orderLine, masksLine}
 use Rattle.description.specs.Symbols.{symbolRead}
-use Rattle.description.specs.Run.{Around, State, Step, go, stop, Outcome, done, refused, Reading, read, turnedDown, refusalNumber, lineStep, closeStep, symbolStep, step, finish, run, start, listed, afterMasks, afterOrder, reading, maxText, secondAt}
+use Rattle.description.specs.Run.{Around, State, Step, go, stop, Outcome, done, refused, Reading, read, turnedDown, refusalNumber, lineStep, closeStep, symbolStep, step, finish, run, start, listed, afterMasks, afterOrder, reading, maxText, maxDepth, secondAt}
 use Rattle.description.specs.declared.SymbolAnswer.{SymbolAnswer}
 use Rattle.description.specs.declared.OrderLine.{OrderLine}
 use Rattle.description.specs.declared.MasksLine.{MasksLine}
@@ -49,7 +49,7 @@ step-stops shares declared at s c l =
     either Stops (eqb c space) tt
     (either Stops (eqb c lineEnd) (line-stops (s .around) s)
     (either Stops (eqb (s .lines) shares) (omega arith)
-    (either Stops (eqb c opening) (either Stops (eqb (length (s .around)) 16) (omega arith) tt)
+    (either Stops (eqb c opening) (either Stops (eqb (length (s .around)) maxDepth) (omega arith) tt)
     (either Stops (eqb c bar) (omega arith)
     (either Stops (eqb c closing) (close-stops at (s .around) s)
     (symbol-stops at (length (word (c ∷ l))) (symbolRead shares declared (word (c ∷ l))) s))))))

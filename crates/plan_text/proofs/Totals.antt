@@ -1,8 +1,8 @@
 -- All sets together.
---     capped-sum     a sum of what is capped is capped as the sum is
---     total-none, total-more     none, and one number more
+--     total-whole, total-most     of numbers whose sum has 64 bits the total is the sum; of all others it is the largest number of 64 bits
+--     total-more     one number more
 --     total-exact    of what the entry tells, the total is the sum itself: it has 64 bits
-use Prim.Native.Nat.{ℕ, zero, suc, _+_, _-_, _*_, _≤_, _<_}
+use Prim.Native.Nat.{ℕ, zero, suc, _+_, _-_, _*_, _^_, _≤_, _<_}
 use native.Mathlib.Nat.{add-assoc, add-zero, add-suc, zero-add, mul-le-mul, le-refl}
 use native.Mathlib.Omega.{arith}
 use mathlib.Core.Path.{_≡_, refl, sym, _∙_, ap, subst}
@@ -39,6 +39,12 @@ capped-sum a b = go (ltb most a) refl
 
 abbrev sum : List ℕ → ℕ
 sum = fold _+_ 0 (λ n. n)
+
+pub total-whole : (l : List ℕ) → fold _+_ 0 (λ n. n) l ≤ 2 ^ 64 - 1 → totalOf l ≡ fold _+_ 0 (λ n. n) l
+total-whole l h = capped-low (sum l) h
+
+pub total-most : (l : List ℕ) → 2 ^ 64 - 1 < fold _+_ 0 (λ n. n) l → totalOf l ≡ 2 ^ 64 - 1
+total-most l h = capped-high (sum l) h
 
 pub total-more : (l : List ℕ) (i : ℕ) → i < length l → capped (totalOf (take i l) + getD l i 0) ≡ totalOf (take (i + 1) l)
 total-more l i h =
