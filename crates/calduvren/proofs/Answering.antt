@@ -1,9 +1,10 @@
 -- What is told of an answer, put into a status and the lent numbers.
 --     lent-refused, judged-refused       a refusal where a buffer is lent, and one of a search
---     kept-0                             status 0 is no refusal
+--     kept-0, kept-refused               status 0 is no refusal; with any other the numbers and the buffer are as they were
 --     Numbers                            what a function promises that is lent no buffer: the equation, what a refusal leaves, what its numbers say
 --     numbers-gave, numbers-refused      its two paths: values, and a refusal
-use Prim.Native.Nat.{ℕ}
+use Prim.Native.Nat.{ℕ, _<_}
+use native.Mathlib.Omega.{arith}
 use mathlib.Core.Path.{_≡_, refl, _∙_, ap}
 use mathlib.Core.List.{List, []}
 use Rattle.basics.specs.Told.{Told, Lent, values, refusal}
@@ -21,6 +22,11 @@ module _ (numbers : List ℕ) (lent : Lent) (number status : ℕ) (held : List �
 
 pub kept-0 : (numbers before held buffer : List ℕ) → Kept 0 numbers before held buffer
 kept-0 numbers before held buffer fails = absurd (fails refl)
+
+-- "all refusals leave lent memory unaltered": what a caller has of it
+pub kept-refused : (status : ℕ) (numbers before held buffer : List ℕ) → Kept status numbers before held buffer → 0 < status
+    → (numbers ≡ before) × (held ≡ buffer)
+kept-refused status numbers before held buffer kept some = kept (λ zero. omega (arith, zero, some))
 
 abbrev pub Numbers : Told → Type 0 → ℕ → List ℕ → List ℕ → Type 0
 Numbers told says status numbers before = (got status numbers [] ≡ answered told before []) × (Kept status numbers before [] [] × says)

@@ -3,13 +3,16 @@
 --     size-gave, size-short, size-refused
 --     size-read, size-too-short, size-count, size-turned-down     what a caller has of it: reading and the set count give him the same numbers
 --     size-room, size-buffer                     when 16 is not given; what the buffer then holds
+--     size-read-status, size-16, size-16-due, size-offset     which status is due; the offset is as it was but for a refusal of reading
 use Prim.Native.Nat.{ℕ, suc, _+_, _-_, _≤_, _<_}
 use native.Mathlib.Omega.{arith}
 use mathlib.Core.Path.{_≡_, refl, sym, _∙_, ap, ap₂, subst}
-use mathlib.Core.Bool.{Bool, cond}
+use mathlib.Core.Logic.{_⊎_, ⊎-elim}
+use mathlib.Core.Bool.{Bool, true, false, cond}
 use mathlib.Core.List.{List, [], _∷_, _++_}
-use borrow.Author.Tests.{lt-ltb, le-ltb}
-use lib.ListN.{length, getD, take, drop, take-append-drop}
+use borrow.Author.Tests.{lt-ltb, le-ltb, eqb-true, eqb-false}
+use lib.Dec.{eqb}
+use lib.ListN.{length, getD, take, drop, take-append-drop, replicate, length-replicate}
 use lib.Seq.{take-at, drop-at, length-take-le, getD-take, ext-getD}
 use Rattle.limits.specs.Limits.{maxOrder, maxWires, maxSize, maxTableBytes}
 use Rattle.basics.specs.Told.{Told, values}
@@ -17,7 +20,10 @@ use Rattle.description.specs.declared.Refusal.{Refusal}
 use Rattle.description.specs.Run.{refusalNumber}
 use Rattle.counts.specs.Counts.{binom}
 use Rattle.sets.specs.Answers.{setCount}
-use Rattle.reader.specs.Answers.{ReadTold, readText}
+use Rattle.description.specs.Grammar.{Description, Spells, wiresOf, maskCount}
+use Rattle.description.proofs.Exactly.{spelled-read, spelled-limits}
+use Rattle.reader.specs.Answers.{ReadTold, ReadLent, gives, readText}
+use Rattle.reader.proofs.Telling.{large-enough}
 use Rattle.reader.specs.Reads.{Readable}
 use Rattle.verdict_answers.specs.Answers.{written}
 use Rattle.plan_text.specs.declared.SizeAnswer.{SizeAnswer}
@@ -36,7 +42,7 @@ module _ (text buffer : List ℕ) where
   SizePromise status order shares masks wires bytes offset held before offset-before =
       (got status (order ∷ shares ∷ masks ∷ wires ∷ bytes ∷ offset ∷ []) held ≡ sizeAnswered (checkSize text) before offset-before buffer)
       × (Kept status (order ∷ shares ∷ masks ∷ wires ∷ bytes ∷ []) before held buffer
-      × CheckSizeSays status order shares masks wires bytes offset text buffer held)
+      × CheckSizeSays status order shares masks wires bytes offset offset-before text buffer held)
 
   module _ (size : CheckSize) (told : sizeTold size ≡ checkSize text) (says : SizeSays (size .answer) (size .sets) text)
       (order-before shares-before masks-before wires-before bytes-before offset-before : ℕ) where
@@ -77,6 +83,7 @@ module _ (text buffer : List ℕ) where
             figures = λ zero. absurd (omega (arith, s, zero));
             past-kept = λ zero. absurd (omega (arith, s, zero));
             refuses = λ no other. absurd (other s);
+            offset-kept = λ is. refl;
             short-exactly = (λ is. (readable, omega (arith, less, read-order o h m w b e readable)), λ r. s);
           },
         ),
@@ -108,6 +115,7 @@ module _ (text buffer : List ℕ) where
                 };
                 past-kept = λ zero. rest;
                 refuses = λ no other. absurd (no refl);
+                offset-kept = λ is. refl;
                 short-exactly = (λ is. absurd (omega (arith, is)), λ r. absurd (omega (arith, r .1, read-order o h m w b e (r .0), room)));
               },
             ),
@@ -129,6 +137,7 @@ module _ (text buffer : List ℕ) where
               figures = λ zero. absurd (omega (arith, s, zero, positive));
               past-kept = λ zero. absurd (omega (arith, s, zero, positive));
               refuses = λ no other. subst (λ (n : ℕ). Refuses text n offset) (sym s) (said .0);
+              offset-kept = ⊎-elim (λ is. absurd (omega (arith, s, is, positive))) (λ is. absurd (omega (arith, s, is, small)));
               short-exactly = (
                 λ is. absurd (omega (arith, s, is, small)),
                 λ r.
@@ -141,8 +150,8 @@ module _ (text buffer : List ℕ) where
 
 -- ---- what a caller in C has of it
 
-module _ (order shares masks wires bytes offset : ℕ) (text buffer held : List ℕ)
-    (says : CheckSizeSays 0 order shares masks wires bytes offset text buffer held) where
+module _ (order shares masks wires bytes offset offset-before : ℕ) (text buffer held : List ℕ)
+    (says : CheckSizeSays 0 order shares masks wires bytes offset offset-before text buffer held) where
   -- a table of so many bytes is read with the same four numbers
   pub size-read : (table numbers : List ℕ) (place : ℕ) → bytes ≤ length table
       → lentRead (readText text table) numbers place ≡ got 0 (order ∷ shares ∷ masks ∷ wires ∷ place ∷ []) (readText text table .held)
@@ -161,24 +170,24 @@ module _ (order shares masks wires bytes offset : ℕ) (text buffer held : List 
   size-count size before first last = ap (λ (t : Told). answered t (before ∷ []) []) (says .figures refl .counts size first last)
 
 -- a text that is turned down is so by reading too, with the same status at the same place, whatever the table
-pub size-turned-down : (status order shares masks wires bytes offset : ℕ) (text buffer held : List ℕ)
-    → CheckSizeSays status order shares masks wires bytes offset text buffer held → (status ≡ 0 → ⊥) → (status ≡ 16 → ⊥)
+pub size-turned-down : (status order shares masks wires bytes offset offset-before : ℕ) (text buffer held : List ℕ)
+    → CheckSizeSays status order shares masks wires bytes offset offset-before text buffer held → (status ≡ 0 → ⊥) → (status ≡ 16 → ⊥)
     → (table numbers : List ℕ) (place : ℕ)
     → lentRead (readText text table) numbers place ≡ got status (numbers ++ offset ∷ []) (readText text table .held)
-size-turned-down status order shares masks wires bytes offset text buffer held says fails other table numbers place =
+size-turned-down status order shares masks wires bytes offset offset-before text buffer held says fails other table numbers place =
     ap (λ (t : ReadTold). readAnswered t numbers place (readText text table .held)) (says .refuses fails other .whatever table)
 
 -- with room for the sizes of the highest order 16 is never given
-pub size-room : (status order shares masks wires bytes offset : ℕ) (text buffer held : List ℕ)
-    → CheckSizeSays status order shares masks wires bytes offset text buffer held → maxOrder ≤ length buffer → status ≡ 16 → ⊥
-size-room status order shares masks wires bytes offset text buffer held says room is =
+pub size-room : (status order shares masks wires bytes offset offset-before : ℕ) (text buffer held : List ℕ)
+    → CheckSizeSays status order shares masks wires bytes offset offset-before text buffer held → maxOrder ≤ length buffer → status ≡ 16 → ⊥
+size-room status order shares masks wires bytes offset offset-before text buffer held says room is =
     let r = says .short-exactly .0 is in omega (arith, r .1, r .0 .spells .order-digit .1, room)
 
 -- the buffer's start has the numbers, and nothing past them is written: so its whole content is told
-pub size-buffer : (order shares masks wires bytes offset : ℕ) (text buffer held : List ℕ)
-    → CheckSizeSays 0 order shares masks wires bytes offset text buffer held → wires ≤ maxWires → order ≤ maxSize → order ≤ length held
+pub size-buffer : (order shares masks wires bytes offset offset-before : ℕ) (text buffer held : List ℕ)
+    → CheckSizeSays 0 order shares masks wires bytes offset offset-before text buffer held → wires ≤ maxWires → order ≤ maxSize → order ≤ length held
     → held ≡ setCounts wires order ++ drop order buffer
-size-buffer order shares masks wires bytes offset text buffer held says few low room =
+size-buffer order shares masks wires bytes offset offset-before text buffer held says few low room =
     let front : take order held ≡ setCounts wires order =
     ext-getD 0 (take order held) (setCounts wires order) (length-take-le order held room ∙ sym (counts-length wires order))
     (λ k inside.
@@ -191,3 +200,47 @@ size-buffer order shares masks wires bytes offset text buffer held says few low 
   where
     set-told : (n k : ℕ) → n ≤ maxWires → k ≤ maxSize → setCount n k ≡ values (binom n k ∷ [])
     set-told n k a b = simp (le-ltb maxWires n a, le-ltb maxSize k b)
+
+-- which status is due: 0 where the text spells a description that any table can hold and the buffer has room for its order's sizes, 16 where it has
+-- not; with any other the text spells none
+module _ (status order shares masks wires bytes offset offset-before : ℕ) (text buffer held : List ℕ)
+    (says : CheckSizeSays status order shares masks wires bytes offset offset-before text buffer held) where
+  -- what the two of them have in common is that reading into the largest table reads the text
+  reads-it : (r : Readable text maxTableBytes) → let d = r .description in
+      readText text (replicate maxTableBytes 0) .told ≡ gives (d .order) (d .order + 1) (maskCount (d .names)) (length (wiresOf d))
+  reads-it r =
+      let d = r .description in
+      ap (λ (l : ReadLent). l .told)
+      (large-enough text (replicate maxTableBytes 0) (d .order) (maskCount (d .names)) (wiresOf d) (spelled-read text d (r .spells) (r .limits)) (r .few-wires)
+      (omega (arith, r .table-room, length-replicate {A = ℕ} maxTableBytes 0)))
+
+  -- a text that can be read is refused with nothing but 16
+  pub size-read-status : Readable text maxTableBytes → (status ≡ 0 → ⊥) → status ≡ 16
+  size-read-status r fails = go (eqb status 16) refl
+    where
+      go : (b : Bool) → eqb status 16 ≡ b → status ≡ 16
+      go true e = eqb-true status 16 e
+      go false e =
+          let both = sym (reads-it r) ∙ says .refuses fails (eqb-false status 16 e) .whatever (replicate maxTableBytes 0) in
+          let z : _≡_ {A = ℕ} 0 1 = cc in absurd (omega (arith, z))
+
+  -- 16 is for a text that spells a description, whose order the buffer has no room for
+  pub size-16 : status ≡ 16 → Readable text maxTableBytes × ((d : Description) → Spells text d → length buffer < d .order)
+  size-16 is =
+      let r = says .short-exactly .0 is in (
+        r .0,
+        λ d spells.
+            let same = sym (spelled-read text (r .0 .description) (r .0 .spells) (r .0 .limits))
+            ∙ spelled-read text d spells
+            (spelled-limits text _ _ _ (spelled-read text (r .0 .description) (r .0 .spells) (r .0 .limits)) d spells) in
+            let order : r .0 .description .order ≡ d .order = cc in
+            omega (arith, r .1, order),
+      )
+
+  -- and every such text gets it
+  pub size-16-due : (r : Readable text maxTableBytes) → length buffer < r .description .order → status ≡ 16
+  size-16-due r less = says .short-exactly .1 (r, less)
+
+  -- the offset is as it was but for a refusal of reading
+  pub size-offset : (status ≡ 0) ⊎ (status ≡ 16) → offset ≡ offset-before
+  size-offset = says .offset-kept

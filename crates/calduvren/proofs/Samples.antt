@@ -4,11 +4,12 @@
 --     large         a count of more than 32 bits
 --     tables        the function check, verdicts and a range check on the tables of the scope's texts A, B and C
 --     texts         text A read, one of its parts, its report, and texts and buffers that are refused
-use Prim.Native.Nat.{ℕ}
+use Prim.Native.Nat.{ℕ, _≤_, _<_}
 use native.Mathlib.Omega.{arith}
 use mathlib.Core.Path.{_≡_, refl, ap}
 use mathlib.Core.Bool.{xor}
 use mathlib.Core.List.{List, [], _∷_, _++_}
+use borrow.Author.Tests.{lt-ltb, le-ltb}
 use lib.ListN.{length, take, drop, replicate}
 use Rattle.basics.specs.Folds.{upTo}
 use Rattle.basics.specs.Quoted.{bytes}
@@ -31,7 +32,9 @@ use Rattle.reader.specs.Answers.{gives, refused, readText, partCheck}
 use Rattle.pages.specs.Decimal.{decimal}
 use Rattle.verdict_lines.specs.Lines.{notionLine}
 use Rattle.report_text.specs.Report.{functionLine, checked, report, reportText}
-use Rattle.calduvren.specs.Calls.{Called, got, answered, lentAnswered, lentJudged, lentRead}
+use Rattle.plan_text.specs.Answers.{figures, checkSize}
+use Rattle.plan_text.specs.Answers as plan
+use Rattle.calduvren.specs.Calls.{Called, got, answered, lentAnswered, lentJudged, lentRead, sizeAnswered}
 
 -- in general: whatever an entry tells, a refusal's number is the status, and then no number but reading's offset is altered; else the status is 0,
 -- the values stand in the first of the numbers, and the others are as they were
@@ -49,6 +52,13 @@ pub statuses : ((number : ℕ) (numbers buffer : List ℕ) → answered (refusal
     × ((order shares masks wires offset : ℕ) (numbers buffer : List ℕ)
     → lentRead (record { told = gives order shares masks wires; held = buffer }) numbers offset
     ≡ got 0 (order ∷ shares ∷ masks ∷ wires ∷ offset ∷ []) buffer)
+    × ((number place offset : ℕ) (counts numbers buffer : List ℕ) → sizeAnswered (record { told = plan.refused number place; sets = counts }) numbers offset buffer
+    ≡ got number (numbers ++ place ∷ []) buffer)
+    × ((order shares masks wires bytes offset : ℕ) (counts numbers buffer : List ℕ) → length buffer < order
+    → sizeAnswered (record { told = figures order shares masks wires bytes; sets = counts }) numbers offset buffer ≡ got 16 (numbers ++ offset ∷ []) buffer)
+    × ((order shares masks wires bytes offset : ℕ) (counts numbers buffer : List ℕ) → order ≤ length buffer
+    → sizeAnswered (record { told = figures order shares masks wires bytes; sets = counts }) numbers offset buffer
+    ≡ got 0 (order ∷ shares ∷ masks ∷ wires ∷ bytes ∷ offset ∷ []) (take order counts ++ drop (length (take order counts)) buffer))
 statuses = (
   λ number numbers buffer. refl,
   λ told numbers buffer. refl,
@@ -59,6 +69,11 @@ statuses = (
   λ size more numbers buffer. refl,
   λ number place offset numbers buffer. refl,
   λ order shares masks wires offset numbers buffer. refl,
+  λ number place offset counts numbers buffer. refl,
+  λ order shares masks wires bytes offset counts numbers buffer short.
+      simp (lt-ltb (length buffer) order short),
+  λ order shares masks wires bytes offset counts numbers buffer room.
+      simp (le-ltb (length buffer) order room),
 )
 
 pub large : answered (setCount 512 5) (7 ∷ []) [] ≡ got 0 (287515515392 ∷ []) []
@@ -100,9 +115,12 @@ pub texts : (readA .status ≡ 0)
     × (drop 216 (readA .buffer) ≡ 5 ∷ [])
     × (lentRead (readText textA (5 ∷ [])) (7 ∷ 8 ∷ 9 ∷ 10 ∷ []) 11 ≡ got 10 (7 ∷ 8 ∷ 9 ∷ 10 ∷ 49 ∷ []) (5 ∷ []))
     × (lentRead (readText [] (5 ∷ [])) (7 ∷ 8 ∷ 9 ∷ 10 ∷ []) 11 ≡ got 2 (7 ∷ 8 ∷ 9 ∷ 10 ∷ 0 ∷ []) (5 ∷ []))
+    × (sizeAnswered (checkSize textA) (7 ∷ 8 ∷ 9 ∷ 10 ∷ 11 ∷ []) 12 (5 ∷ 6 ∷ []) ≡ got 0 (1 ∷ 2 ∷ 1 ∷ 9 ∷ 216 ∷ 12 ∷ []) (9 ∷ 6 ∷ []))
+    × (sizeAnswered (checkSize textA) (7 ∷ 8 ∷ 9 ∷ 10 ∷ 11 ∷ []) 12 [] ≡ got 16 (7 ∷ 8 ∷ 9 ∷ 10 ∷ 11 ∷ 12 ∷ []) [])
+    × (sizeAnswered (checkSize []) (7 ∷ 8 ∷ 9 ∷ 10 ∷ 11 ∷ []) 12 [] ≡ got 2 (7 ∷ 8 ∷ 9 ∷ 10 ∷ 11 ∷ 0 ∷ []) [])
     × (answered (partCheck textA (take 216 (readA .buffer)) 7) (7 ∷ 8 ∷ []) [] ≡ got 0 (35 ∷ 12 ∷ []) [])
     × (answered (partCheck textA (take 216 (readA .buffer)) 9) (7 ∷ 8 ∷ []) [] ≡ got 21 (7 ∷ 8 ∷ []) [])
     × (lentAnswered (reportText [] (replicate 16 5)) (7 ∷ []) ≡ got 0 (15 ∷ []) (bytes "refused 2 at 0\n" ++ 5 ∷ []))
     × (lentAnswered (reportText [] (replicate 14 5)) (7 ∷ []) ≡ got 16 (7 ∷ []) (replicate 14 5))
-unfolding orderLine masksLine namesFrom run bit encode upTo xor beyond decimal functionLine notionLine checked report
-texts = (refl, refl, refl, refl, refl, refl, refl, refl, refl)
+unfolding orderLine masksLine namesFrom run bit encode upTo xor beyond decimal functionLine notionLine checked report binom
+texts = (refl, refl, refl, refl, refl, refl, refl, refl, refl, refl, refl, refl)

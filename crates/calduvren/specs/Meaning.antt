@@ -117,11 +117,13 @@ pub record PartSays (status offset size : ℕ) (text table : List ℕ) (wire : �
   pub part : status ≡ 0 → take size (drop offset text) ≡ textPart text table wire
 
 -- 16 where the text can be read and the buffer has no room for its order's sizes
-pub record CheckSizeSays (status order shares masks wires bytes offset : ℕ) (text buffer held : List ℕ) : Type 0 where
+pub record CheckSizeSays (status order shares masks wires bytes offset offset-before : ℕ) (text buffer held : List ℕ) : Type 0 where
   pub figures : status ≡ 0 → Figures text held order shares masks wires bytes
   -- nothing past the order's sizes is written
   pub past-kept : status ≡ 0 → drop order held ≡ drop order buffer
   pub refuses : (status ≡ 0 → ⊥) → (status ≡ 16 → ⊥) → Refuses text status offset
+  -- only a refusal of reading has a place in the text
+  pub offset-kept : (status ≡ 0) ⊎ (status ≡ 16) → offset ≡ offset-before
   pub short-exactly : (status ≡ 16) ↔ ((r : Readable text maxTableBytes) × (length buffer < r .description .order))
 
 pub record ReportSays (status size : ℕ) (text buffer held : List ℕ) : Type 0 where

@@ -64,7 +64,7 @@ pub extern "C" fn calduvren_check_size(
 ) -> u64
     ensures { λ r. ⌜ got r (now (order .exit) ∷ now (shares .exit) ∷ now (masks .exit) ∷ now (wires .exit) ∷ now (bytes .exit) ∷ now (offset .exit) ∷ []) (now (sets .exit)) ≡ sizeAnswered (checkSize (now (text .entry))) (now (order .entry) ∷ now (shares .entry) ∷ now (masks .entry) ∷ now (wires .entry) ∷ now (bytes .entry) ∷ []) (now (offset .entry)) (now (sets .entry)) ⌝ }
     ensures { λ r. ⌜ Kept r (now (order .exit) ∷ now (shares .exit) ∷ now (masks .exit) ∷ now (wires .exit) ∷ now (bytes .exit) ∷ []) (now (order .entry) ∷ now (shares .entry) ∷ now (masks .entry) ∷ now (wires .entry) ∷ now (bytes .entry) ∷ []) (now (sets .exit)) (now (sets .entry)) ⌝ }
-    ensures { λ r. ⌜ CheckSizeSays r (now (order .exit)) (now (shares .exit)) (now (masks .exit)) (now (wires .exit)) (now (bytes .exit)) (now (offset .exit)) (now (text .entry)) (now (sets .entry)) (now (sets .exit)) ⌝ }
+    ensures { λ r. ⌜ CheckSizeSays r (now (order .exit)) (now (shares .exit)) (now (masks .exit)) (now (wires .exit)) (now (bytes .exit)) (now (offset .exit)) (now (offset .entry)) (now (text .entry)) (now (sets .entry)) (now (sets .exit)) ⌝ }
 {
     let size = plan_text::check_size(text);
     let answer = size.answer;

@@ -1,5 +1,5 @@
-// What the programs have in common: how they read standard input and their argument, print, tell a time, and say why a text is refused.
-// It knows no gadget's report, plan or text.
+// What the programs have in common: how they read standard input and their argument, print, tell a time, and say why a text is refused. It
+// knows nothing of what the one or the other is asked for.
 pub mod arguments;
 pub mod input;
 pub mod lines;

@@ -1,4 +1,5 @@
-// How long a check takes, in words.
+// How long a check takes, in words. They are written to a page: a note says them from there, and a plan has them printed with all else by one
+// call.
 ghost use Prim.Native.Nat.{_≤_, _+_};
 ghost use lib.ListN.{length};
 ghost use Rattle.console.specs.Times.{timeBytes};

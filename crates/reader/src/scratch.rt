@@ -1,4 +1,5 @@
-// Reading into a table of the code's own: the whole text, with no table lent. Refusal 10 is here for over 512 wires alone.
+// Reading the whole text into a table of the calling code's own, none of a caller's being lent: what it holds after a refusal, and past the last
+// record, is nobody's concern. Refusal 10 is here for over 512 wires alone.
 ghost use mathlib.Core.Path.{_≡_};
 ghost use Prim.Native.Nat.{_≤_};
 ghost use lib.ListN.{length};
