@@ -1,6 +1,6 @@
 // The argument of a program that takes a number and nothing else.
-use crate::numbers::is_number;
-use crate::numbers::number_of;
+use number_words::is_number;
+use number_words::number_of;
 
 pub enum Argument {
     Missing,

@@ -3,7 +3,6 @@
 pub mod arguments;
 pub mod input;
 pub mod lines;
-pub mod numbers;
 pub mod output;
 pub mod refusals;
 pub mod saying;

@@ -20,7 +20,7 @@ use Rattle.basics.proofs.Folds.{fold-append}
 use Rattle.basics.proofs.Tests.{and-left, and-right}
 use Rattle.description.specs.Bytes.{digit}
 use Rattle.pages.proofs.Numbers.{worth}
-use Rattle.console.specs.Digits.{isNumber, large, withDigit, numberFrom, numberOf}
+use Rattle.number_words.specs.Digits.{isNumber, large, withDigit, numberFrom, numberOf}
 
 -- ---- byte by byte
 

@@ -2,7 +2,7 @@
 ghost use mathlib.Core.Path.{_≡_};
 ghost use Rattle.basics.specs.Folds.{every};
 ghost use Rattle.description.specs.Bytes.{digit};
-ghost use Rattle.console.specs.Digits.{isNumber, withDigit, numberOf};
+ghost use Rattle.number_words.specs.Digits.{isNumber, withDigit, numberOf};
 use tokens::bytes::is_digit;
 
 // From here on a number is large: it has nineteen digits. A number below takes one digit more within 64 bits.

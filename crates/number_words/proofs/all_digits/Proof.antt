@@ -1,4 +1,4 @@
--- `console::numbers::all_digits` meets its contract: before each turn the bytes up to there are digits.
+-- `number_words::all_digits` meets its contract: before each turn the bytes up to there are digits.
 -- Assumes nothing.
 use Prim.Native.Nat.{_-_, _≤_}
 use mathlib.Core.Path.{_≡_, refl, sym, _∙_}
@@ -7,10 +7,10 @@ use borrow.Author.Tests.{not-true, not-false}
 use lib.ListN.{length, take}
 use Rattle.basics.specs.Folds.{every}
 use Rattle.description.specs.Bytes.{digit}
-use Rattle.console.proofs.Digits.{digits-more, digits-all, digits-fail}
+use Rattle.number_words.proofs.Digits.{digits-more, digits-all, digits-fail}
 use borrow.Author.Needs.{needs}
-use Rattle.console.proofs.numbers.all_digits.Statement.{statement}
-use Rattle.console.proofs.numbers.all_digits.Tie as tie
+use Rattle.number_words.proofs.all_digits.Statement.{statement}
+use Rattle.number_words.proofs.all_digits.Tie as tie
 
 abbrev Inv-loop : tie.InvT-loop
 Inv-loop word i₀ i-end i = (i-end ≡ length word) × (i ≤ i-end) × (every digit (take i word) ≡ true)

@@ -1,13 +1,13 @@
--- `console::numbers::number_of` meets its contract: before each turn the number of the bytes up to there is known.
+-- `number_words::number_of` meets its contract: before each turn the number of the bytes up to there is known.
 -- Assumes nothing.
 use Prim.Native.Nat.{_-_, _≤_}
 use mathlib.Core.Path.{_≡_, refl}
 use lib.ListN.{length, take}
-use Rattle.console.specs.Digits.{numberOf}
-use Rattle.console.proofs.Digits.{number-more, number-all}
+use Rattle.number_words.specs.Digits.{numberOf}
+use Rattle.number_words.proofs.Digits.{number-more, number-all}
 use borrow.Author.Needs.{needs}
-use Rattle.console.proofs.numbers.number_of.Statement.{statement}
-use Rattle.console.proofs.numbers.number_of.Tie as tie
+use Rattle.number_words.proofs.number_of.Statement.{statement}
+use Rattle.number_words.proofs.number_of.Tie as tie
 
 abbrev Inv-loop : tie.InvT-loop
 Inv-loop word number₀ i₀ i-end number i = (i-end ≡ length word) × (i ≤ i-end) × (number ≡ numberOf (take i word))

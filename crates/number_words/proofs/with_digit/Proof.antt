@@ -1,9 +1,9 @@
--- `console::numbers::with_digit` meets its contract: a number that is large stays, and any other gets its digit.
+-- `number_words::with_digit` meets its contract: a number that is large stays, and any other gets its digit.
 -- Assumes nothing.
-use Rattle.console.proofs.Digits.{digit-large, digit-none, digit-more}
+use Rattle.number_words.proofs.Digits.{digit-large, digit-none, digit-more}
 use borrow.Author.Needs.{needs}
-use Rattle.console.proofs.numbers.with_digit.Statement.{statement}
-use Rattle.console.proofs.numbers.with_digit.Tie as tie
+use Rattle.number_words.proofs.with_digit.Statement.{statement}
+use Rattle.number_words.proofs.with_digit.Tie as tie
 
 returns : tie.Need-returns
 returns c = let a = c .before .args in digit-large (a .number) (a .byte) (c .if1 .taken)

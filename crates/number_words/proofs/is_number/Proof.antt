@@ -1,10 +1,10 @@
--- `console::numbers::is_number` meets its contract: the tests on length and first byte, then on all bytes.
+-- `number_words::is_number` meets its contract: the tests on length and first byte, then on all bytes.
 -- Assumes nothing.
 use mathlib.Core.Path.{sym, _∙_}
-use Rattle.console.proofs.Digits.{number-empty, number-one, number-led, number-digits}
+use Rattle.number_words.proofs.Digits.{number-empty, number-one, number-led, number-digits}
 use borrow.Author.Needs.{needs}
-use Rattle.console.proofs.numbers.is_number.Statement.{statement}
-use Rattle.console.proofs.numbers.is_number.Tie as tie
+use Rattle.number_words.proofs.is_number.Statement.{statement}
+use Rattle.number_words.proofs.is_number.Tie as tie
 
 returns : tie.Need-returns
 returns c = let a = c .before .before .args in sym (number-empty (a .word .now) (c .if1 .taken))

@@ -1,3 +1,0 @@
--- What the functions of `console` need, and what a word of digits is worth.
---     Digits     a number as a word of digits
-pub mod Digits
