@@ -7,8 +7,7 @@ use description::MAX_TEXT_BYTES;
 pub use isw_gadget::IswAnswer;
 use isw_gadget::MAX_ISW_ORDER;
 pub use isw_gadget::Refusal;
-
-mod lines;
+use isw_lines::whole_text;
 
 // Writes the text to the start of a buffer.
 pub fn isw_text(order: usize, text: &mut [u8]) -> IswAnswer
@@ -22,7 +21,7 @@ pub fn isw_text(order: usize, text: &mut [u8]) -> IswAnswer
         return IswAnswer::Refused(Refusal::OrderOutOfRange);
     }
     let mut page = [0u8; MAX_TEXT_BYTES];
-    let length = lines::whole_text(&mut page, order);
+    let length = whole_text(&mut page, order);
     if text.len() < length {
         return IswAnswer::Refused(Refusal::TextDoesNotFit);
     }

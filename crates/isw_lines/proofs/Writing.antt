@@ -31,7 +31,7 @@ use Rattle.pages.proofs.Writing.{wrote-nothing, wrote-after}
 use Rattle.isw_gadget.specs.Pairs.{pairs, pairNumber}
 use Rattle.isw_gadget.specs.Text.{corrected, item, lineText, iswText}
 use Rattle.isw_gadget.specs.Answers.{maxIswOrder}
-use Rattle.isw_text.proofs.Numbering.{pair-small}
+use Rattle.isw_lines.proofs.Numbering.{pair-small}
 
 -- ---- numbers and pieces
 

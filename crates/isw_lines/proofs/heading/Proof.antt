@@ -1,4 +1,4 @@
--- `isw_text::lines::heading` meets its contract: before each turn the header lines up to that mask are written.
+-- `isw_lines::heading` meets its contract: before each turn the header lines up to that mask are written.
 -- Assumes nothing.
 use Prim.Native.Nat.{_+_, _*_, _-_, _≤_}
 use native.Mathlib.Omega.{arith}
@@ -7,11 +7,11 @@ use lib.ListN.{length}
 use Rattle.limits.specs.Limits.{maxMasks}
 use Rattle.pages.specs.Page.{Wrote}
 use Rattle.isw_gadget.specs.Pairs.{pairs}
-use Rattle.isw_text.proofs.Numbering.{pairs-formula, pairs-small, pairs-few, pairs-some}
-use Rattle.isw_text.proofs.Writing.{namesTo, names-begin, names-next, header-wrote}
+use Rattle.isw_lines.proofs.Numbering.{pairs-formula, pairs-small, pairs-few, pairs-some}
+use Rattle.isw_lines.proofs.Writing.{namesTo, names-begin, names-next, header-wrote}
 use borrow.Author.Needs.{needs}
-use Rattle.isw_text.proofs.lines.heading.Statement.{statement}
-use Rattle.isw_text.proofs.lines.heading.Tie as tie
+use Rattle.isw_lines.proofs.heading.Statement.{statement}
+use Rattle.isw_lines.proofs.heading.Tie as tie
 
 abbrev Inv-loop : tie.InvT-loop
 Inv-loop page₀ order first end₀ mask₀ t8 t9 mask-end page end mask =

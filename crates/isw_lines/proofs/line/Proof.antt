@@ -1,14 +1,14 @@
--- `isw_text::lines::line` meets its contract: before each turn the line up to that share is written.
+-- `isw_lines::line` meets its contract: before each turn the line up to that share is written.
 -- Assumes nothing.
 use Prim.Native.Nat.{_+_, _*_, _-_, _≤_}
 use native.Mathlib.Omega.{arith}
 use mathlib.Core.Path.{_≡_}
 use lib.ListN.{length}
 use Rattle.pages.specs.Page.{Wrote}
-use Rattle.isw_text.proofs.Writing.{piecesTo, pieces-begin, pieces-next, partText, line-wrote}
+use Rattle.isw_lines.proofs.Writing.{piecesTo, pieces-begin, pieces-next, partText, line-wrote}
 use borrow.Author.Needs.{needs}
-use Rattle.isw_text.proofs.lines.line.Statement.{statement}
-use Rattle.isw_text.proofs.lines.line.Tie as tie
+use Rattle.isw_lines.proofs.line.Statement.{statement}
+use Rattle.isw_lines.proofs.line.Tie as tie
 
 abbrev Inv-loop : tie.InvT-loop
 Inv-loop page₀ at order i end₀ j₀ t8 j-end page end j =

@@ -1,15 +1,15 @@
--- `isw_text::lines::whole_text` meets its contract: before each turn the text up to that line is written.
+-- `isw_lines::whole_text` meets its contract: before each turn the text up to that line is written.
 -- Assumes nothing.
 use Prim.Native.Nat.{_+_, _*_, _-_, _≤_}
 use native.Mathlib.Omega.{arith}
 use mathlib.Core.Path.{_≡_}
 use lib.ListN.{length}
 use Rattle.pages.specs.Page.{Wrote}
-use Rattle.isw_text.proofs.Writing.{piecesTo, pieces-begin, pieces-next, text-wrote}
+use Rattle.isw_lines.proofs.Writing.{piecesTo, pieces-begin, pieces-next, text-wrote}
 use Rattle.isw_gadget.specs.Text.{lineText}
 use borrow.Author.Needs.{needs}
-use Rattle.isw_text.proofs.lines.whole_text.Statement.{statement}
-use Rattle.isw_text.proofs.lines.whole_text.Tie as tie
+use Rattle.isw_lines.proofs.whole_text.Statement.{statement}
+use Rattle.isw_lines.proofs.whole_text.Tie as tie
 
 abbrev Inv-loop : tie.InvT-loop
 Inv-loop page₀ order end₀ i₀ i-end page end i =

@@ -1,9 +1,9 @@
--- `isw_text::lines::corrected` meets its contract: its pieces are written one after the other.
+-- `isw_lines::corrected` meets its contract: its pieces are written one after the other.
 -- Assumes nothing.
 use Rattle.pages.proofs.Writing.{wrote-after}
 use borrow.Author.Needs.{needs}
-use Rattle.isw_text.proofs.lines.corrected.Statement.{statement}
-use Rattle.isw_text.proofs.lines.corrected.Tie as tie
+use Rattle.isw_lines.proofs.corrected.Statement.{statement}
+use Rattle.isw_lines.proofs.corrected.Tie as tie
 
 slice-aggregate-write-named : tie.Need-slice-aggregate-write-named
 slice-aggregate-write-named c = search needs

@@ -1,10 +1,10 @@
--- `isw_text::lines::pair_number` meets its contract: the formula gives the pair's number.
+-- `isw_lines::pair_number` meets its contract: the formula gives the pair's number.
 -- Assumes nothing.
 use native.Mathlib.Omega.{arith}
-use Rattle.isw_text.proofs.Numbering.{rows-small, pair-formula}
+use Rattle.isw_lines.proofs.Numbering.{rows-small, pair-formula}
 use borrow.Author.Needs.{needs}
-use Rattle.isw_text.proofs.lines.pair_number.Statement.{statement}
-use Rattle.isw_text.proofs.lines.pair_number.Tie as tie
+use Rattle.isw_lines.proofs.pair_number.Statement.{statement}
+use Rattle.isw_lines.proofs.pair_number.Tie as tie
 
 mul-result : tie.Need-mul-result
 mul-result c = search needs

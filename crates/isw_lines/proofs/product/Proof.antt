@@ -1,9 +1,9 @@
--- `isw_text::lines::product` meets its contract: its bytes are written one after the other.
+-- `isw_lines::product` meets its contract: its bytes are written one after the other.
 -- Assumes nothing.
-use Rattle.isw_text.proofs.Writing.{product-wrote}
+use Rattle.isw_lines.proofs.Writing.{product-wrote}
 use borrow.Author.Needs.{needs}
-use Rattle.isw_text.proofs.lines.product.Statement.{statement}
-use Rattle.isw_text.proofs.lines.product.Tie as tie
+use Rattle.isw_lines.proofs.product.Statement.{statement}
+use Rattle.isw_lines.proofs.product.Tie as tie
 
 write-text-requires : tie.Need-write-text-requires
 write-text-requires c κs = search needs

@@ -1,11 +1,11 @@
--- `isw_text::lines::part` meets its contract: nothing for a line's own share, a mask for one above, the corrected products for one below.
+-- `isw_lines::part` meets its contract: nothing for a line's own share, a mask for one above, the corrected products for one below.
 -- Assumes nothing.
 use native.Mathlib.Omega.{arith}
-use Rattle.isw_text.proofs.Numbering.{pair-small}
-use Rattle.isw_text.proofs.Writing.{lower, part-own, part-above, part-below}
+use Rattle.isw_lines.proofs.Numbering.{pair-small}
+use Rattle.isw_lines.proofs.Writing.{lower, part-own, part-above, part-below}
 use borrow.Author.Needs.{needs}
-use Rattle.isw_text.proofs.lines.part.Statement.{statement}
-use Rattle.isw_text.proofs.lines.part.Tie as tie
+use Rattle.isw_lines.proofs.part.Statement.{statement}
+use Rattle.isw_lines.proofs.part.Tie as tie
 
 returns : tie.Need-returns
 returns c = let a = c .before .before .args in part-own (a .page .now) (a .at) (a .order) (a .i) (a .j) (c .if1 .taken)
