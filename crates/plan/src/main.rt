@@ -87,7 +87,9 @@ fn say_refused(text: &[u8], why: Refusal, offset: usize) {
 }
 
 fn say_usage() {
-    say(
-        b"plan: usage: plan [RATE]    (RATE: sets a second, a number from 1 on; the text comes from standard input)\n",
+    say_number(
+        b"plan: usage: plan [RATE]    (RATE: sets a second, a number from 1 on of at most ",
+        RATE_DIGITS as u64,
     );
+    say(b" digits, without leading zeros; the text comes from standard input)\n");
 }

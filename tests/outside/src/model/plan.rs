@@ -5,8 +5,8 @@ use super::notes::{self, time, Way};
 use super::sizes::Size;
 use super::trees::Fault;
 
-pub const USAGE: &str = "plan: usage: plan [RATE]    (RATE: sets a second, a number from 1 on; the text comes from \
-    standard input)\n";
+pub const USAGE: &str = "plan: usage: plan [RATE]    (RATE: sets a second, a number from 1 on of at most 18 digits, \
+    without leading zeros; the text comes from standard input)\n";
 
 /// Sets a second, where no rate is given.
 pub const USUAL_RATE: u64 = 10_000_000;
