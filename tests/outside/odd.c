@@ -9,6 +9,7 @@
  *   breaks       standard input gives a few bytes, and then a read fails
  *   ended        a read after one that met the end of standard input fails, and that is said on standard error: at a
  *                terminal it would wait for a user who has ended the text already
+ *   leaves       a second write to standard output fails: its reader has what came first, and is gone
  *
  * build: gcc -O2 -shared -fPIC tests/outside/odd.c -o target/outside/odd.so     (in the repository's root)
  */
@@ -26,7 +27,7 @@
 #define FEW 10
 
 static const char *odd = "";
-static unsigned long reads;
+static unsigned long reads, prints;
 static int ended;
 
 static int is(const char *name)
@@ -75,6 +76,8 @@ ssize_t read(int file, void *buffer, size_t length)
 
 ssize_t write(int file, const void *buffer, size_t length)
 {
+    if (file == STDOUT_FILENO && is("leaves") && prints++ > 0)
+        return fail(EPIPE);
     if ((file == STDOUT_FILENO || file == STDERR_FILENO) && is("short") && length > 1)
         length = 1;
     return syscall(SYS_write, file, buffer, length);

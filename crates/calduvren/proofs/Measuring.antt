@@ -1,7 +1,7 @@
 -- The paths of the function that tells the size of a check: what each tells, and what its numbers mean, from what the entry promises of the answer.
 --     size-low                                   there is a number of sets for each size up to the order
 --     size-gave, size-short, size-refused
---     size-read, size-too-short, size-count, size-turned-down     what a caller has of it: reading and the set count give him the same numbers
+--     size-read, size-too-short, size-count, size-turned-down, size-ten     what a caller has of it: reading and the set count give him the same numbers
 --     size-room, size-buffer                     when 16 is not given; what the buffer then holds
 --     size-read-status, size-16, size-16-due, size-offset     which status is due; the offset is as it was but for a refusal of reading
 use Prim.Native.Nat.{ℕ, suc, _+_, _-_, _≤_, _<_}
@@ -29,7 +29,7 @@ use Rattle.verdict_answers.specs.Answers.{written}
 use Rattle.plan_text.specs.declared.SizeAnswer.{SizeAnswer}
 use Rattle.plan_text.specs.declared.CheckSize.{CheckSize}
 use Rattle.plan_text.specs.Answers.{Sized, figures, answerTold, sizeTold, setCounts, checkSize}
-use Rattle.plan_text.specs.Says.{Refuses, SizeSays}
+use Rattle.plan_text.specs.Says.{OverMany, Refuses, SizeSays}
 use Rattle.plan_text.proofs.Counting.{counts-length, counts-at}
 use Rattle.plan_text.proofs.Sizing.{spelled-figures, figures-spelled}
 use Rattle.calduvren.specs.Calls.{Called, got, answered, readAnswered, lentRead, figuresAnswered, sizeAnswered}
@@ -176,6 +176,12 @@ pub size-turned-down : (status order shares masks wires bytes offset offset-befo
     → lentRead (readText text table) numbers place ≡ got status (numbers ++ offset ∷ []) (readText text table .held)
 size-turned-down status order shares masks wires bytes offset offset-before text buffer held says fails other table numbers place =
     ap (λ (t : ReadTold). readAnswered t numbers place (readText text table .held)) (says .refuses fails other .whatever table)
+
+-- "10 here only for over 512 wires"
+pub size-ten : (status order shares masks wires bytes offset offset-before : ℕ) (text buffer held : List ℕ)
+    → CheckSizeSays status order shares masks wires bytes offset offset-before text buffer held → status ≡ 10 → OverMany text
+size-ten status order shares masks wires bytes offset offset-before text buffer held says is =
+    says .refuses (λ zero. omega (arith, is, zero)) (λ other. omega (arith, is, other)) .ten .0 is
 
 -- with room for the sizes of the highest order 16 is never given
 pub size-room : (status order shares masks wires bytes offset offset-before : ℕ) (text buffer held : List ℕ)

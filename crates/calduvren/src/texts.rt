@@ -70,13 +70,13 @@ pub extern "C" fn calduvren_check_size(
     let answer = size.answer;
     let counts = size.sets;
     match answer {
-        SizeAnswer::Refused { why, offset: fault } => {
-            *offset = fault;
+        SizeAnswer::Refused { why, offset: place } => {
+            *offset = place;
             why.number()
         }
         SizeAnswer::Size {
             order: t,
-            shares: n,
+            shares: s,
             masks: m,
             wires: w,
             bytes: b,
@@ -87,7 +87,7 @@ pub extern "C" fn calduvren_check_size(
             }
             write_sets(&counts[0..t], sets);
             *order = t;
-            *shares = n;
+            *shares = s;
             *masks = m;
             *wires = w;
             *bytes = b;

@@ -4,10 +4,12 @@
 --     Ten         reading by itself gives no 10
 --     Sizing      what the entry tells, and what its answer says
 --     Exactly     the words of what it says fix the answer
+--     Telling     what the entry tells, in the law's words
 --     Samples     examples, proved by running the definitions
 pub mod Counting
 pub mod Totals
 pub mod Ten
 pub mod Sizing
 pub mod Exactly
+pub mod Telling
 pub mod Samples

@@ -168,7 +168,7 @@ fn on_file(arguments: &[&[u8]]) -> Case {
 }
 
 /// A plan at a rate, a refusal and a wrong argument, with outputs that can not be written, standard errors that take
-/// nothing, and systems that are odd.
+/// nothing, and systems that are odd; a rate with inputs that can not be read, at all or to the end.
 fn of_ways() -> Vec<Case> {
     let mut cases = Vec::new();
     for (argument, text) in [("7", A), ("7", REFUSED), ("07", A)] {
@@ -183,12 +183,26 @@ fn of_ways() -> Vec<Case> {
             case.call.error = error;
             cases.push(case);
         }
-        for odd in ["errno", "interrupted", "short", "ended"] {
+        for odd in ["errno", "interrupted", "short", "ended", "leaves"] {
             let mut case = case();
             case.call.odd = Some(odd);
             cases.push(case);
         }
     }
+    let breaking = Input::Pieces(vec![A.as_bytes().to_vec()]);
+    let unread = [
+        (Input::Closed, None),
+        (Input::File(PathBuf::from("/")), None),
+        (breaking, Some("breaks")),
+    ];
+    cases.extend(unread.map(|(input, odd)| Case {
+        call: Call {
+            odd,
+            arguments: arguments::of(&[b"7"]),
+            ..Call::on(input)
+        },
+        text: None,
+    }));
     cases
 }
 

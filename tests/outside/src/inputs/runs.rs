@@ -132,7 +132,7 @@ fn of_ways() -> Vec<Case> {
     cases.push(endless(Input::Endless(a.to_vec()), filled(lengths[2], b' ')));
     cases.push(endless(Input::Endless(Vec::new()), vec![b' '; lengths[2]]));
     cases.push(endless(Input::File(PathBuf::from("/dev/zero")), vec![0; lengths[2]]));
-    for odd in ["errno", "interrupted", "short", "ended"] {
+    for odd in ["errno", "interrupted", "short", "ended", "leaves"] {
         for text in [
             a,
             B.as_bytes(),

@@ -112,6 +112,7 @@ fn ways(arguments: &[&str]) -> Vec<Call> {
         with_input(Input::Endless(b"2\n".to_vec())),
         odd("errno"),
         odd("short"),
+        odd("leaves"),
     ]
 }
 
