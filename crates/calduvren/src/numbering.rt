@@ -2,12 +2,8 @@
 ghost use mathlib.Core.Path.{_≡_};
 ghost use mathlib.Core.List.{[], _∷_};
 ghost use Rattle.sets.specs.Answers.{setCount, setFromRank, rankFromSet, jobRanks};
-ghost use Rattle.calduvren.specs.Calls.{got, answered, lentAnswered};
-ghost use Rattle.calduvren.specs.Meaning.{Kept, CountSays, SetSays, RankSays, JobSays};
-use sets::CountAnswer;
-use sets::JobAnswer;
-use sets::RankAnswer;
-use sets::SetAnswer;
+ghost use Rattle.call_answers.specs.Calls.{got, answered, lentAnswered};
+ghost use Rattle.call_answers.specs.Meaning.{Kept, CountSays, SetSays, RankSays, JobSays};
 
 // How many sets of `size` out of `wires` wires there are.
 #[no_mangle]
@@ -16,14 +12,7 @@ pub extern "C" fn calduvren_set_count(wires: usize, size: usize, sets: &mut u64)
     ensures { λ r. ⌜ Kept r (now (sets .exit) ∷ []) (now (sets .entry) ∷ []) [] [] ⌝ }
     ensures { λ r. ⌜ CountSays r (now (sets .exit)) wires size ⌝ }
 {
-    let answer = sets::set_count(wires, size);
-    match answer {
-        CountAnswer::Refused(why) => why.number(),
-        CountAnswer::Sets(count) => {
-            *sets = count;
-            0
-        }
-    }
+    set_calls::set_count(wires, size, sets)
 }
 
 // Writes the set at a rank, rising, at the start of `set`.
@@ -38,11 +27,7 @@ pub extern "C" fn calduvren_set_from_rank(
     ensures { λ r. ⌜ Kept r [] [] (now (set .exit)) (now (set .entry)) ⌝ }
     ensures { λ r. ⌜ SetSays r wires size rank (now (set .entry)) (now (set .exit)) ⌝ }
 {
-    let answer = sets::set_from_rank(wires, size, rank, set);
-    match answer {
-        SetAnswer::Refused(why) => why.number(),
-        SetAnswer::Written => 0,
-    }
+    set_calls::set_from_rank(wires, size, rank, set)
 }
 
 // The rank of a set among the sets of its size.
@@ -52,14 +37,7 @@ pub extern "C" fn calduvren_rank_from_set(wires: usize, set: &[u16], rank: &mut 
     ensures { λ r. ⌜ Kept r (now (rank .exit) ∷ []) (now (rank .entry) ∷ []) [] [] ⌝ }
     ensures { λ r. ⌜ RankSays r (now (rank .exit)) wires (now (set .entry)) ⌝ }
 {
-    let answer = sets::rank_from_set(wires, set);
-    match answer {
-        RankAnswer::Refused(why) => why.number(),
-        RankAnswer::Rank(place) => {
-            *rank = place;
-            0
-        }
-    }
+    set_calls::rank_from_set(wires, set, rank)
 }
 
 // The ranks that job number `job` of `jobs` has to visit.
@@ -76,16 +54,5 @@ pub extern "C" fn calduvren_job(
     ensures { λ r. ⌜ Kept r (now (from .exit) ∷ now (to .exit) ∷ []) (now (from .entry) ∷ now (to .entry) ∷ []) [] [] ⌝ }
     ensures { λ r. ⌜ JobSays r (now (from .exit)) (now (to .exit)) wires size job jobs ⌝ }
 {
-    let answer = sets::job(wires, size, job, jobs);
-    match answer {
-        JobAnswer::Refused(why) => why.number(),
-        JobAnswer::Ranks {
-            from: first,
-            to: end,
-        } => {
-            *from = first;
-            *to = end;
-            0
-        }
-    }
+    set_calls::job(wires, size, job, jobs, from, to)
 }

@@ -1,15 +1,10 @@
 // The operations on a wire table.
 ghost use mathlib.Core.Path.{_≡_};
 ghost use mathlib.Core.List.{[], _∷_};
-ghost use Rattle.basics.specs.Folds.{oneIf};
 ghost use Rattle.table.specs.Answers.{functionCheck};
 ghost use Rattle.verdict_answers.specs.Answers.{verdictOf, rangeCheck, setDependence};
-ghost use Rattle.calduvren.specs.Calls.{got, answered, lentJudged};
-ghost use Rattle.calduvren.specs.Meaning.{Kept, FunctionSays, VerdictSays, VerdictShows, RangeShows, DependenceSays};
-use table::FunctionAnswer;
-use verdict_answers::DependenceAnswer;
-use verdict_answers::RangeAnswer;
-use verdict_answers::VerdictAnswer;
+ghost use Rattle.call_answers.specs.Calls.{got, answered, lentJudged};
+ghost use Rattle.call_answers.specs.Meaning.{Kept, FunctionSays, VerdictSays, VerdictShows, RangeShows, DependenceSays};
 
 // Whether the outer wires add up to a function.
 #[no_mangle]
@@ -24,18 +19,7 @@ pub extern "C" fn calduvren_function_check(
     ensures { λ r. ⌜ Kept r (now (yes .exit) ∷ []) (now (yes .entry) ∷ []) [] [] ⌝ }
     ensures { λ r. ⌜ FunctionSays r (now (yes .exit)) (now (table .entry)) shares masks function ⌝ }
 {
-    let answer = table::function_check(table, shares, masks, function);
-    match answer {
-        FunctionAnswer::Refused(why) => why.number(),
-        FunctionAnswer::Yes => {
-            *yes = 1;
-            0
-        }
-        FunctionAnswer::No => {
-            *yes = 0;
-            0
-        }
-    }
+    table_calls::function_check(table, shares, masks, function, yes)
 }
 
 // Whether the table holds the notion at an order.
@@ -55,19 +39,7 @@ pub extern "C" fn calduvren_verdict(
     ensures { λ r. ⌜ VerdictShows r (now (holds .exit)) (now (size .exit)) (now (table .entry)) shares masks notion order (now (set .entry)) (now (set .exit)) ⌝ }
     ensures { λ r. ⌜ VerdictSays r (now (holds .exit)) (now (size .exit)) (now (table .entry)) shares masks notion order (now (set .exit)) ⌝ }
 {
-    let answer = verdict::verdict(table, shares, masks, notion, order, set);
-    match answer {
-        VerdictAnswer::Refused(why) => why.number(),
-        VerdictAnswer::Holds => {
-            *holds = 1;
-            0
-        }
-        VerdictAnswer::Broken { size: wires } => {
-            *holds = 0;
-            *size = wires;
-            0
-        }
-    }
+    table_calls::verdict(table, shares, masks, notion, order, set, holds, size)
 }
 
 // Whether a set of one size breaks the notion at a rank from `from` up to, without, `to`.
@@ -89,23 +61,19 @@ pub extern "C" fn calduvren_range_check(
     ensures { λ r. ⌜ Kept r (now (clean .exit) ∷ now (found .exit) ∷ now (rank .exit) ∷ []) (now (clean .entry) ∷ now (found .entry) ∷ now (rank .entry) ∷ []) (now (set .exit)) (now (set .entry)) ⌝ }
     ensures { λ r. ⌜ RangeShows r (now (clean .exit)) (now (found .exit)) (now (rank .exit)) (now (table .entry)) shares masks notion size from to (now (set .entry)) (now (set .exit)) ⌝ }
 {
-    let answer = verdict::range_check(table, shares, masks, notion, size, from, to, set);
-    match answer {
-        RangeAnswer::Refused(why) => why.number(),
-        RangeAnswer::Clean => {
-            *clean = 1;
-            0
-        }
-        RangeAnswer::Found {
-            size: wires,
-            rank: place,
-        } => {
-            *clean = 0;
-            *found = wires;
-            *rank = place;
-            0
-        }
-    }
+    table_calls::range_check(
+        table,
+        shares,
+        masks,
+        notion,
+        size,
+        from,
+        to,
+        set,
+        clean,
+        found,
+        rank,
+    )
 }
 
 // On how many shares of a and of b a set of wires depends, how many the notion allows it, and whether a mask is left.
@@ -125,29 +93,15 @@ pub extern "C" fn calduvren_set_dependence(
     ensures { λ r. ⌜ Kept r (now («of_a» .exit) ∷ now («of_b» .exit) ∷ now (allowed .exit) ∷ now (masked .exit) ∷ []) (now («of_a» .entry) ∷ now («of_b» .entry) ∷ now (allowed .entry) ∷ now (masked .entry) ∷ []) [] [] ⌝ }
     ensures { λ r. ⌜ DependenceSays r (now («of_a» .exit)) (now («of_b» .exit)) (now (allowed .exit)) (now (masked .exit)) (now (table .entry)) shares masks notion (now (set .entry)) ⌝ }
 {
-    let answer = verdict::set_dependence(table, shares, masks, notion, set);
-    match answer {
-        DependenceAnswer::Refused(why) => why.number(),
-        DependenceAnswer::Depends {
-            of_a: a,
-            of_b: b,
-            allowed: most,
-            masked: left,
-        } => {
-            *of_a = a;
-            *of_b = b;
-            *allowed = most;
-            *masked = one_if(left);
-            0
-        }
-    }
-}
-
-fn one_if(bit: bool) -> u64
-    ensures { λ r. ⌜ r ≡ oneIf bit ⌝ }
-{
-    if bit {
-        return 1;
-    }
-    0
+    table_calls::set_dependence(
+        table,
+        shares,
+        masks,
+        notion,
+        set,
+        of_a,
+        of_b,
+        allowed,
+        masked,
+    )
 }

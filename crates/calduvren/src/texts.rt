@@ -5,14 +5,8 @@ ghost use Rattle.reader.specs.Answers.{readText, partCheck};
 ghost use Rattle.plan_text.specs.Answers.{checkSize};
 ghost use Rattle.report_text.specs.Report.{reportText};
 ghost use Rattle.isw_gadget.specs.Answers.{iswWritten};
-ghost use Rattle.calduvren.specs.Calls.{got, answered, lentAnswered, lentRead, sizeAnswered};
-ghost use Rattle.calduvren.specs.Meaning.{Kept, ReadSays, CheckSizeSays, PartSays, ReportSays, IswTextSays};
-use isw_gadget::IswAnswer;
-use plan_text::SizeAnswer;
-use plan_text::write_sets;
-use reader::PartAnswer;
-use reader::ReadAnswer;
-use report_text::ReportAnswer;
+ghost use Rattle.call_answers.specs.Calls.{got, answered, lentAnswered, lentRead, sizeAnswered};
+ghost use Rattle.call_answers.specs.Meaning.{Kept, ReadSays, CheckSizeSays, PartSays, ReportSays, IswTextSays};
 
 // Reads a text into the wires that its grammar gives.
 #[no_mangle]
@@ -29,25 +23,7 @@ pub extern "C" fn calduvren_read_text(
     ensures { λ r. ⌜ Kept r (now (order .exit) ∷ now (shares .exit) ∷ now (masks .exit) ∷ now (wires .exit) ∷ []) (now (order .entry) ∷ now (shares .entry) ∷ now (masks .entry) ∷ now (wires .entry) ∷ []) (now (table .exit)) (now (table .entry)) ⌝ }
     ensures { λ r. ⌜ ReadSays r (now (order .exit)) (now (shares .exit)) (now (masks .exit)) (now (wires .exit)) (now (text .entry)) (now (table .entry)) (now (table .exit)) ⌝ }
 {
-    let answer = reader::read_text(text, table);
-    match answer {
-        ReadAnswer::Refused { why, offset: fault } => {
-            *offset = fault;
-            why.number()
-        }
-        ReadAnswer::Read {
-            order: t,
-            shares: n,
-            masks: m,
-            wires: w,
-        } => {
-            *order = t;
-            *shares = n;
-            *masks = m;
-            *wires = w;
-            0
-        }
-    }
+    text_calls::read_text(text, table, order, shares, masks, wires, offset)
 }
 
 // What a check of a text takes: its figures, and the number of sets of each size from 1 to the order at the start of a buffer.
@@ -66,34 +42,7 @@ pub extern "C" fn calduvren_check_size(
     ensures { λ r. ⌜ Kept r (now (order .exit) ∷ now (shares .exit) ∷ now (masks .exit) ∷ now (wires .exit) ∷ now (bytes .exit) ∷ []) (now (order .entry) ∷ now (shares .entry) ∷ now (masks .entry) ∷ now (wires .entry) ∷ now (bytes .entry) ∷ []) (now (sets .exit)) (now (sets .entry)) ⌝ }
     ensures { λ r. ⌜ CheckSizeSays r (now (order .exit)) (now (shares .exit)) (now (masks .exit)) (now (wires .exit)) (now (bytes .exit)) (now (offset .exit)) (now (offset .entry)) (now (text .entry)) (now (sets .entry)) (now (sets .exit)) ⌝ }
 {
-    let size = plan_text::check_size(text);
-    let answer = size.answer;
-    let counts = size.sets;
-    match answer {
-        SizeAnswer::Refused { why, offset: place } => {
-            *offset = place;
-            why.number()
-        }
-        SizeAnswer::Size {
-            order: t,
-            shares: s,
-            masks: m,
-            wires: w,
-            bytes: b,
-        } => {
-            if sets.len() < t {
-                let short = sets::Refusal::BufferTooShort;
-                return short.number();
-            }
-            write_sets(&counts[0..t], sets);
-            *order = t;
-            *shares = s;
-            *masks = m;
-            *wires = w;
-            *bytes = b;
-            0
-        }
-    }
+    text_calls::check_size(text, sets, order, shares, masks, wires, bytes, offset)
 }
 
 // Where the part of the text that computes a wire stands.
@@ -109,18 +58,7 @@ pub extern "C" fn calduvren_text_part(
     ensures { λ r. ⌜ Kept r (now (offset .exit) ∷ now (length .exit) ∷ []) (now (offset .entry) ∷ now (length .entry) ∷ []) [] [] ⌝ }
     ensures { λ r. ⌜ PartSays r (now (offset .exit)) (now (length .exit)) (now (text .entry)) (now (table .entry)) wire ⌝ }
 {
-    let answer = reader::text_part_check(text, table, wire);
-    match answer {
-        PartAnswer::Refused(why) => why.number(),
-        PartAnswer::Part {
-            offset: start,
-            length: bytes,
-        } => {
-            *offset = start;
-            *length = bytes;
-            0
-        }
-    }
+    text_calls::text_part(text, table, wire, offset, length)
 }
 
 // Writes the report on a text to the start of a buffer.
@@ -130,14 +68,7 @@ pub extern "C" fn calduvren_report_text(text: &[u8], buffer: &mut [u8], length: 
     ensures { λ r. ⌜ Kept r (now (length .exit) ∷ []) (now (length .entry) ∷ []) (now (buffer .exit)) (now (buffer .entry)) ⌝ }
     ensures { λ r. ⌜ ReportSays r (now (length .exit)) (now (text .entry)) (now (buffer .entry)) (now (buffer .exit)) ⌝ }
 {
-    let answer = report_text::report(text, buffer);
-    match answer {
-        ReportAnswer::Refused(why) => why.number(),
-        ReportAnswer::Written { length: size } => {
-            *length = size;
-            0
-        }
-    }
+    text_calls::report_text(text, buffer, length)
 }
 
 // Writes the multiplication of Ishai, Sahai and Wagner at an order to the start of a buffer.
@@ -147,12 +78,5 @@ pub extern "C" fn calduvren_isw_text(order: usize, text: &mut [u8], length: &mut
     ensures { λ r. ⌜ Kept r (now (length .exit) ∷ []) (now (length .entry) ∷ []) (now (text .exit)) (now (text .entry)) ⌝ }
     ensures { λ r. ⌜ IswTextSays r (now (length .exit)) order (now (text .entry)) (now (text .exit)) ⌝ }
 {
-    let answer = isw_text::isw_text(order, text);
-    match answer {
-        IswAnswer::Refused(why) => why.number(),
-        IswAnswer::Written { length: written } => {
-            *length = written;
-            0
-        }
-    }
+    text_calls::isw_text(order, text, length)
 }
