@@ -1,7 +1,8 @@
 //! The header against the crate and the model: the calls of tests/header hold the order and the types of the arguments
 //! to the library, but nothing their names, and a caller goes by the names. Each declaration of the header has to be
 //! that of the exported function, and each constant what the model goes by; each refusal of the scope has one name, and
-//! no other number has. Read from the repository's root.
+//! no other number has. An exported function passes its arguments on to one that has to have the same contract, to the
+//! letter. Read from the repository's root.
 
 use super::stack::{REPORT_BYTES, STACK_BYTES};
 use crate::answers::REQUIRED;
@@ -19,6 +20,14 @@ use std::fs::{read_dir, read_to_string};
 pub const HEADER: &str = "include/calduvren.h";
 /// Every file of this folder, so that no exported function is overlooked.
 const CRATE: &str = "crates/calduvren/src";
+const EXPORTED: &str = "pub extern \"C\" fn ";
+/// Where the work of the exported functions is done, by functions of the same names without this word before them.
+const BELOW: [&str; 3] = [
+    "crates/set_calls/src",
+    "crates/table_calls/src",
+    "crates/text_calls/src",
+];
+const BEFORE: &str = "calduvren_";
 /// The header's rule: a function more raises the version's minor number, another answer to the same call its major one.
 /// So these two change together.
 const FUNCTIONS: usize = 13;
@@ -26,6 +35,8 @@ const VERSION: usize = 20_200;
 
 /// A function's arguments as C declares them.
 type Declarations = BTreeMap<String, Vec<String>>;
+/// What a function asks and promises, line by line.
+type Contracts = BTreeMap<String, Vec<String>>;
 
 const REFUSED: &str = "CALDUVREN_REFUSED_";
 pub const REFUSALS: u64 = 24;
@@ -81,9 +92,16 @@ pub fn run(_: &mut Random, tally: &mut Tally) {
     let header = without_comments(&read(HEADER));
     let in_header = declared(&header, "calduvren_status ", |argument| vec![spaced(argument)]);
     let sources = read_all(CRATE);
-    let in_crate = declared(&sources, "pub extern \"C\" fn ", in_c);
+    let in_crate = declared(&sources, EXPORTED, in_c);
     if in_header != in_crate || in_crate.len() != FUNCTIONS {
         tally.differs(|| format!("the header declares {in_header:#?}, and the crate exports {in_crate:#?}"));
+    }
+    let promised = contracts(&sources, &format!("{EXPORTED}{BEFORE}"));
+    let below = contracts(&BELOW.map(read_all).concat(), "pub fn ");
+    let promises =
+        |clauses: &Vec<String>| !clauses.is_empty() && clauses.iter().all(|clause| clause.starts_with("ensures "));
+    if promised != below || promised.len() != FUNCTIONS || !promised.values().all(promises) {
+        tally.differs(|| format!("the exported functions promise {promised:#?}, and those that they call {below:#?}"));
     }
     let constants: Vec<(&str, usize)> = header.lines().filter_map(constant).collect();
     if constants != CONSTANTS {
@@ -96,8 +114,8 @@ pub fn run(_: &mut Random, tally: &mut Tally) {
     }
     let (functions, constants, refusals) = (in_header.len(), constants.len(), named.len());
     tally.say(format!(
-        "header          {functions} functions declared as they are exported, {constants} constants as in the model, \
-         {refusals} refusals named once each"
+        "header          {functions} functions declared as they are exported, with the contracts of those that they \
+         call, {constants} constants as in the model, {refusals} refusals named once each"
     ));
 }
 
@@ -143,6 +161,18 @@ fn declared(text: &str, word: &str, in_c: fn(&str) -> Vec<String>) -> Declaratio
         let (name, arguments) = head.split_once('(')?;
         let arguments = arguments.split(',').filter(|argument| !argument.trim().is_empty());
         Some((name.to_string(), arguments.flat_map(in_c).collect()))
+    });
+    functions.collect()
+}
+
+/// The clauses between the arguments and the body of each function that follows `word`.
+fn contracts(text: &str, word: &str) -> Contracts {
+    let functions = text.split(word).skip(1).filter_map(|part| {
+        let (name, rest) = part.split_once('(')?;
+        let (head, _) = rest.split_once("\n{\n")?;
+        let (_, contract) = head.split_once(" -> u64\n")?;
+        let clauses = contract.lines().map(|clause| clause.trim().to_string());
+        Some((name.to_string(), clauses.collect()))
     });
     functions.collect()
 }
