@@ -1,0 +1,96 @@
+// The walk over the sets of one size in the published order: from a set, in place, to the next one, with the wire that leaves and the wire
+// that enters. It needs no table of counts, and on the average it looks at less than two places of the set. It knows no record and no verdict.
+ghost use mathlib.Core.Path.{_≡_};
+ghost use Prim.Native.Nat.{_+_, _≤_, _<_};
+ghost use lib.ListN.{length, drop};
+ghost use Rattle.limits.specs.Limits.{maxWires};
+ghost use Rattle.walk.specs.Neighbours.{Exchanged, HasNext, nextSet};
+ghost use Rattle.walk.specs.Places.{limit, isOdd, Blocked};
+
+// The wire that left a set and the wire that entered it.
+pub struct Exchange {
+    pub leaves: usize,
+    pub enters: usize,
+}
+
+// What the wire at a place stays below: the next wire of the set, or the number of wires.
+fn limit(wires: usize, set: &[u16], place: usize) -> usize
+    requires { ⌜ place < length (now set) ⌝ }
+    ensures { λ r. ⌜ r ≡ limit wires (now (set .entry)) (place + 1) ⌝ }
+{
+    if place + 1 < set.len() {
+        return set[place + 1] as usize;
+    }
+    wires
+}
+
+// The next set, where the lowest wire can not move. Directions alternate from place to place. A wire may fall where those below it could
+// not rise, and rise where they could not fall.
+fn climb(wires: usize, set: &mut [u16]) -> Exchange
+    requires { ⌜ (wires ≤ maxWires) × HasNext wires (now set) × Blocked (isOdd (length (now set))) wires (now set) 0 ⌝ }
+    ensures { λ r. ⌜ now (set .exit) ≡ nextSet wires (now (set .entry)) ⌝ }
+    ensures { λ r. ⌜ Exchanged (now (set .entry)) (now (set .exit)) (r .leaves) (r .enters) ⌝ }
+{
+    let mut rising = set.len() % 2 == 1;
+    let mut below = 0;
+    while below + 1 < set.len() {
+        let place = below + 1;
+        let wire = set[place] as usize;
+        if rising {
+            if place < wire {
+                let lower = set[below];
+                set[below] = below as u16;
+                set[place] = lower;
+                return Exchange {
+                    leaves: wire,
+                    enters: below,
+                };
+            }
+            rising = false;
+            below = place;
+        } else {
+            if wire + 1 < limit(wires, set, place) {
+                set[below] = wire as u16;
+                set[place] = (wire + 1) as u16;
+                return Exchange {
+                    leaves: below,
+                    enters: wire + 1,
+                };
+            }
+            rising = true;
+            below = place;
+        }
+    }
+    // not reached: the set would be the last
+    Exchange {
+        leaves: 0,
+        enters: 0,
+    }
+}
+
+// Takes a set to the next one of its size. The lowest wire moves by one where it can: up where the size is odd, down where it is even.
+pub fn step(wires: usize, set: &mut [u16]) -> Exchange
+    requires { ⌜ (wires ≤ maxWires) × HasNext wires (now set) ⌝ }
+    ensures { λ r. ⌜ now (set .exit) ≡ nextSet wires (now (set .entry)) ⌝ }
+    ensures { λ r. ⌜ Exchanged (now (set .entry)) (now (set .exit)) (r .leaves) (r .enters) ⌝ }
+{
+    let lowest = set[0] as usize;
+    if set.len() % 2 == 1 {
+        if lowest + 1 < limit(wires, set, 0) {
+            set[0] = (lowest + 1) as u16;
+            return Exchange {
+                leaves: lowest,
+                enters: lowest + 1,
+            };
+        }
+        return climb(wires, set);
+    }
+    if 0 < lowest {
+        set[0] = (lowest - 1) as u16;
+        return Exchange {
+            leaves: lowest,
+            enters: lowest - 1,
+        };
+    }
+    climb(wires, set)
+}
