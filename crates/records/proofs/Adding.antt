@@ -2,6 +2,7 @@
 --     words-zero           words that are all 0 stand for no terms
 --     words-added          words added without carry stand for the sum
 --     words-of-record      the words that the code reads are the record's
+--     record-added         the same, added to a sum
 --     outer-byte           the byte that tells an outer wire
 --     set-inside           every wire of a set is one of the table's
 --     total-more           the sum with one wire more of a set
@@ -61,6 +62,12 @@ words-of-record table wire p k a b h ep ek ea eb =
     eb ∙ sym (byte-at table (recordBytes * wire + 17) (omega (arith, r))) ∙ sym (field-at table wire 17 1 (omega arith)) in
     ap₂ (λ (x y : ℕ). decodeTerms x y a b) f g
     ∙ ap₂ (λ (x y : ℕ). decodeTerms (field 0 8 (recordAt table wire)) (field 8 8 (recordAt table wire)) x y) c d
+
+pub record-added : (table : List ℕ) (wire q l c d p k a b : ℕ) → wire < wireCount table → p ≡ number (take 8 (drop (recordBytes * wire) table))
+    → k ≡ number (take 8 (drop (recordBytes * wire + 8) table)) → a ≡ getD table (recordBytes * wire + 16) 0 → b ≡ getD table (recordBytes * wire + 17) 0
+    → decodeTerms (bitXor q p) (bitXor l k) (bitXor c a) (bitXor d b) ≡ plus (decodeTerms q l c d) (wireAt table wire .terms)
+record-added table wire q l c d p k a b h ep ek ea eb =
+    words-added q p l k c a d b ∙ ap (plus (decodeTerms q l c d)) (words-of-record table wire p k a b h ep ek ea eb)
 
 pub outer-byte : (table : List ℕ) (wire : ℕ) → wire < wireCount table → getD table (recordBytes * wire + outerAt) 0 ≡ kindOf (recordAt table wire)
 outer-byte table wire h =

@@ -74,6 +74,20 @@ pub fn added(s: Sum, t: Sum) -> Sum
     }
 }
 
+// A sum with the record of a wire added, which is read where it stands. A record that is added twice is gone again.
+pub fn with_wire(sum: Sum, table: &[u8], wire: usize) -> Sum
+    requires { ⌜ wire < wireCount (now table) ⌝ }
+    ensures { λ r. ⌜ termsOf r ≡ plus (termsOf sum) (wireAt (now (table .entry)) wire .terms) ⌝ }
+{
+    let at = RECORD_BYTES * wire;
+    Sum {
+        products: sum.products ^ word(table, at),
+        masks: sum.masks ^ word(table, at + MASKS_AT),
+        shares_a: sum.shares_a ^ table[at + SHARES_A_AT],
+        shares_b: sum.shares_b ^ table[at + SHARES_B_AT],
+    }
+}
+
 // The sum of no records.
 pub fn nothing() -> Sum
     ensures { λ r. ⌜ termsOf r ≡ none ⌝ }
@@ -96,7 +110,7 @@ pub fn sum_of_set(table: &[u8], set: &[u16]) -> Sum
     let mut sum = nothing();
     let mut i = 0;
     while i < set.len() {
-        sum = added(sum, wire_record(table, set[i] as usize));
+        sum = with_wire(sum, table, set[i] as usize);
         i += 1;
     }
     sum
@@ -112,7 +126,7 @@ pub fn sum_of_outers(table: &[u8]) -> Sum
     let mut wire = 0;
     while wire < count {
         if is_outer(table, wire) {
-            sum = added(sum, wire_record(table, wire));
+            sum = with_wire(sum, table, wire);
         }
         wire += 1;
     }
@@ -200,13 +214,11 @@ pub fn payers(table: &[u8], notion: Notion, set: &[u16]) -> usize
     }
 }
 
-// Whether a set of wires breaks a notion. Most sums keep a mask, so the masks come first. The set is the caller's: a wire given twice cancels
-// and still pays.
-pub fn set_breaks(table: &[u8], notion: Notion, set: &[u16]) -> bool
-    requires { ⌜ inside (now table) (now set) ≡ true ⌝ }
+// Whether a set of wires whose records add up to a sum breaks a notion. Most sums keep a mask, so the masks come first.
+pub fn sum_breaks(table: &[u8], notion: Notion, set: &[u16], sum: Sum) -> bool
+    requires { ⌜ (inside (now table) (now set) ≡ true) × (termsOf sum ≡ total (map (wireAt (now table)) (now set))) ⌝ }
     ensures { λ r. ⌜ r ≡ breaks notion maxShares maxMasks (map (wireAt (now (table .entry))) (now (set .entry))) ⌝ }
 {
-    let sum = sum_of_set(table, set);
     if is_masked(sum) {
         return false;
     }
@@ -216,4 +228,12 @@ pub fn set_breaks(table: &[u8], notion: Notion, set: &[u16]) -> bool
         return true;
     }
     allowed < on.of_b
+}
+
+// Whether a set of wires breaks a notion. The set is the caller's: a wire given twice cancels and still pays.
+pub fn set_breaks(table: &[u8], notion: Notion, set: &[u16]) -> bool
+    requires { ⌜ inside (now table) (now set) ≡ true ⌝ }
+    ensures { λ r. ⌜ r ≡ breaks notion maxShares maxMasks (map (wireAt (now (table .entry))) (now (set .entry))) ⌝ }
+{
+    sum_breaks(table, notion, set, sum_of_set(table, set))
 }

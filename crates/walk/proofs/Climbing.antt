@@ -10,13 +10,15 @@ use native.Mathlib.Nat.{not-suc-le-zero}
 use native.Mathlib.Numerals.{add-one}
 use native.Mathlib.Omega.{arith}
 use mathlib.Core.Path.{_≡_, refl, sym, _∙_, ap, ap₂, subst}
-use mathlib.Core.Bool.{Bool, true, false, not}
+use mathlib.Core.Logic.{_⊎_, inl, inr}
+use mathlib.Core.Bool.{Bool, true, false, not, true≢false}
 use mathlib.Core.List.{List, [], _∷_, _++_, append-assoc, append-nil}
-use borrow.Author.Tests.{ne-eqb}
+use borrow.Author.Tests.{ne-eqb, eqb-true}
 use lib.Dec.{eqb}
 use lib.ListN.{length, getD, take, drop, set, length-append, length-drop}
 use lib.Seq.{split-at, take-suc, drop-cons}
 use Rattle.basics.specs.Folds.{upTo}
+use Rattle.basics.proofs.Tests.{or-cases}
 use Rattle.basics.proofs.Folds.{up-to-last, up-to-length}
 use Rattle.counts.specs.Counts.{binom}
 use Rattle.counts.proofs.Binomial.{binom-suc, binom-wider}
@@ -119,11 +121,20 @@ chosen-from : (lo from n : ℕ) (l : List ℕ) → from ≤ head n l → Chosen 
 chosen-from lo from n [] h c = tt
 chosen-from lo from n (x ∷ l) h c = (h, c .1, c .2)
 
-chosen-away : (lo n z : ℕ) (l : List ℕ) → z < lo → Chosen lo n l → contains z l ≡ false
+pub chosen-away : (lo n z : ℕ) (l : List ℕ) → z < lo → Chosen lo n l → contains z l ≡ false
 chosen-away lo n z [] h c = refl
 chosen-away lo n z (x ∷ l) h c =
     let low : lo ≤ x = c .0 in
     rw (ne-eqb z x (omega arith)) (chosen-away (suc x) n z l (omega arith) (c .2))
+
+-- and a wire that it has is the table's
+pub chosen-has : (lo n z : ℕ) (l : List ℕ) → Chosen lo n l → contains z l ≡ true → z < n
+chosen-has lo n z [] c e = absurd (true≢false (sym e))
+chosen-has lo n z (x ∷ l) c e = go (or-cases (eqb z x) (contains z l) e) (chosen-has (suc x) n z l (c .2))
+  where
+    go : (eqb z x ≡ true) ⊎ (contains z l ≡ true) → (contains z l ≡ true → z < n) → z < n
+    go (inl p) ih = subst (λ (i : ℕ). i < n) (sym (eqb-true z x p)) (c .1)
+    go (inr p) ih = ih p
 
 module _ (n k x : ℕ) (rest : List ℕ) (low : k ≤ x) (inside : suc x < head n rest) (above : Chosen (suc x) n rest) where
   higher : Chosen (suc (suc x)) n rest

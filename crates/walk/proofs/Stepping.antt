@@ -8,6 +8,7 @@
 --     climbing-start, turn-rises, turn-falls, turn-high, turn-low     the turns
 --     never-last               a set with a next one is not blocked at every place
 --     some-wire, wire-below    such a set has a wire, and its wires are the table's
+--     next-is-set, has-next-at, next-at       the next set, also by its rank
 use Prim.Native.Nat.{ℕ, zero, suc, _+_, _-_, _%_, _≤_, _<_}
 use native.Mathlib.Nat.{not-suc-le-zero}
 use native.Mathlib.Numerals.{add-one}
@@ -24,9 +25,9 @@ use Rattle.basics.proofs.Folds.{up-to-last, up-to-length}
 use Rattle.counts.specs.Counts.{binom}
 use Rattle.counts.proofs.Binomial.{binom-zero}
 use Rattle.basics.proofs.Tests.{and-right}
-use Rattle.revolving.specs.Order.{setAt, rankOf, rising, below}
-use Rattle.revolving.proofs.Rising.{Chosen}
-use Rattle.revolving.proofs.Revolving.{rank-unique}
+use Rattle.revolving.specs.Order.{setAt, isSet, rankOf, rising, below}
+use Rattle.revolving.proofs.Rising.{Chosen, isSet-parts}
+use Rattle.revolving.proofs.Revolving.{rank-unique, set-at-is-set}
 use Rattle.revolving.proofs.Unranking.{wire-inside}
 use Rattle.walk.specs.Neighbours.{Exchanged, HasNext, nextSet}
 use Rattle.walk.specs.Places.{isOdd, head, limit, Blocked}
@@ -332,3 +333,30 @@ never-last n s₀ s d j l out = go d (l .blocked) (ap (turns d) (sym none) ∙ l
         let rank : rankOf (suc y) s ≡ r = rank-unique (suc y) (suc j) r s (omega arith) last in
         let more : rankOf (suc y) s + 1 < binom (suc y) (suc j) = subst (λ (m : ℕ). rankOf m s + 1 < binom m (suc j)) top (subst (λ (k : ℕ). rankOf n s + 1 < binom n k) size (next .later)) in
         omega arith
+
+-- ---- what the crates above ask
+
+pub next-is-set : (n : ℕ) (s : List ℕ) → HasNext n s → isSet n (length s) (nextSet n s) ≡ true
+unfolding nextSet
+next-is-set n s next = set-at-is-set n (length s) (rankOf n s + 1) (next .later)
+
+-- a set by its rank: it has a next one where the rank has
+module _ (n k r : ℕ) (s : List ℕ) (here : s ≡ setAt n k r) (more : r + 1 < binom n k) where
+  set-here : isSet n k s ≡ true
+  set-here = ap (isSet n k) here ∙ set-at-is-set n k r (omega arith)
+
+  size-here : length s ≡ k
+  size-here = isSet-parts n k s set-here .0
+
+  rank-here : rankOf n s ≡ r
+  rank-here = rank-unique n k r s (omega arith) (sym here)
+
+  pub has-next-at : HasNext n s
+  has-next-at = record {
+    is-set = subst (λ (m : ℕ). isSet n m s ≡ true) (sym size-here) set-here;
+    later = subst (λ (m : ℕ). rankOf n s + 1 < binom n m) (sym size-here) (omega (arith, rank-here));
+  }
+
+  pub next-at : nextSet n s ≡ setAt n k (r + 1)
+  unfolding nextSet
+  next-at = ap₂ (λ (m i : ℕ). setAt n m (i + 1)) size-here rank-here

@@ -1,45 +1,17 @@
--- `records::sums::set_breaks` meets its contract: it makes the three tests of the definition in their order.
+-- `records::sums::set_breaks` meets its contract: the sum that is tested is that of the set.
 -- Assumes nothing.
 use borrow.Author.Needs.{needs}
-use Rattle.records.proofs.Breaking.{still-masked, more-of-a, then-of-b}
 use Rattle.records.proofs.sums.set_breaks.Statement.{statement}
 use Rattle.records.proofs.sums.set_breaks.Tie as tie
 
 sum-of-set-requires : tie.Need-sum-of-set-requires
 sum-of-set-requires c κs = search needs
 
-is-masked-requires : tie.Need-is-masked-requires
-is-masked-requires c κs = search needs
+sum-breaks-requires : tie.Need-sum-breaks-requires
+sum-breaks-requires c κs = search needs
 
 returns : tie.Need-returns
-returns c = still-masked _ _ _ (c .before .before .sum-of-set .ensures .0) _ (c .before .is-masked .ensures) (c .if1 .taken)
-
-payers-requires : tie.Need-payers-requires
-payers-requires c κs = search needs
-
-dependence-requires : tie.Need-dependence-requires
-dependence-requires c κs = search needs
-
-returns-2 : tie.Need-returns-2
-returns-2 c =
-    more-of-a _ _ _ (c .before .before .before .before .before .before .sum-of-set .ensures .0) _ (c .before .before .before .before .before .is-masked .ensures) _ _ _
-    (c .before .before .before .before .if1 .left) (c .before .before .before .payers .ensures) (c .before .before .dependence .ensures .0)
-    (c .before .before .dependence .ensures .1) (c .if2 .taken)
-
-returns-3 : tie.Need-returns-3
-returns-3 c =
-    then-of-b _ _ _ (c .before .before .before .before .before .before .before .sum-of-set .ensures .0) _ (c .before .before .before .before .before .before .is-masked .ensures) _ _ _
-    (c .before .before .before .before .before .if1 .left) (c .before .before .before .before .payers .ensures) (c .before .before .before .dependence .ensures .0)
-    (c .before .before .before .dependence .ensures .1) (c .before .if2 .left)
+returns c = search needs
 
 pub set-breaks-spec : {M : Type 1} → statement M
-set-breaks-spec =
-    tie.close
-    (tie.spec
-    sum-of-set-requires
-    is-masked-requires
-    returns
-    payers-requires
-    dependence-requires
-    returns-2
-    returns-3)
+set-breaks-spec = tie.close (tie.spec sum-of-set-requires sum-breaks-requires returns)

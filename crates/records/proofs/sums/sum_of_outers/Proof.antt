@@ -8,7 +8,7 @@ use mathlib.Core.Logic.{⊎-elim}
 use borrow.Author.Needs.{needs}
 use Rattle.basics.specs.Folds.{upTo}
 use Rattle.wires.specs.Function.{outers}
-use Rattle.wires.specs.Wires.{plus, total}
+use Rattle.wires.specs.Wires.{total}
 use Rattle.records.specs.Layout.{wireAt, termsOf}
 use Rattle.records.proofs.Adding.{outers-taken, outers-left, whole-table}
 use Rattle.records.proofs.sums.sum_of_outers.Statement.{statement}
@@ -30,11 +30,8 @@ loop-holds c = (zero-le, c .nothing .ensures .0)
 is-outer-requires : tie.Need-is-outer-requires Inv-loop μ-loop
 is-outer-requires c κs = search needs
 
-wire-record-requires : tie.Need-wire-record-requires Inv-loop μ-loop
-wire-record-requires c κs = search needs
-
-added-requires : tie.Need-added-requires Inv-loop μ-loop
-added-requires c κs = search needs
+with-wire-requires : tie.Need-with-wire-requires Inv-loop μ-loop
+with-wire-requires c κs = search needs
 
 add-wire : tie.Need-add-wire Inv-loop μ-loop
 add-wire c = search needs
@@ -46,7 +43,7 @@ loop-again : tie.Need-loop-again Inv-loop μ-loop
 loop-again c = (
   omega (arith, c .before .before .loop-test .taken),
   ⊎-elim
-      (λ w. ap termsOf (w .3) ∙ w .2 .ensures .0 ∙ ap (plus (termsOf (c .before .before .before .loop .sum))) (w .1 .ensures)
+      (λ w. ap termsOf (w .2) ∙ w .1 .ensures
       ∙ outers-taken _ _ _ (sym (c .before .is-outer .ensures) ∙ w .0 .taken) (c .before .before .before .loop .inv .1))
       (λ w. ap termsOf (w .1) ∙ outers-left _ _ _ (sym (c .before .is-outer .ensures) ∙ w .0 .left) (c .before .before .before .loop .inv .1))
       (c .if1 .came),
@@ -64,8 +61,7 @@ sum-of-outers-spec =
     nothing-requires
     loop-holds
     is-outer-requires
-    wire-record-requires
-    added-requires
+    with-wire-requires
     add-wire
     loop-less
     loop-again

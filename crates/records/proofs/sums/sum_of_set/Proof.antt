@@ -3,10 +3,10 @@
 use Prim.Native.Nat.{_-_, _≤_, zero-le}
 use native.Mathlib.Omega.{arith}
 use mathlib.Core.List.{map}
-use mathlib.Core.Path.{_≡_, _∙_, ap}
+use mathlib.Core.Path.{_≡_, _∙_}
 use borrow.Author.Needs.{needs}
 use lib.ListN.{length, take}
-use Rattle.wires.specs.Wires.{plus, total}
+use Rattle.wires.specs.Wires.{total}
 use Rattle.records.specs.Layout.{wireAt, termsOf}
 use Rattle.records.proofs.Adding.{set-inside, total-more, whole-set}
 use Rattle.records.proofs.sums.sum_of_set.Statement.{statement}
@@ -24,20 +24,17 @@ nothing-requires c κs = search needs
 loop-holds : tie.Need-loop-holds Inv-loop μ-loop
 loop-holds c = (zero-le, c .nothing .ensures .0)
 
-mul-wire-record : tie.Need-mul-wire-record Inv-loop μ-loop
-mul-wire-record c = search needs
+mul-with-wire : tie.Need-mul-with-wire Inv-loop μ-loop
+mul-with-wire c = search needs
 
-shared-slice-read-wire-record : tie.Need-shared-slice-read-wire-record Inv-loop μ-loop
-shared-slice-read-wire-record c = search needs
+shared-slice-read-with-wire : tie.Need-shared-slice-read-with-wire Inv-loop μ-loop
+shared-slice-read-with-wire c = search needs
 
-cast-wire-record : tie.Need-cast-wire-record Inv-loop μ-loop
-cast-wire-record c = omega (arith, c .shared-slice-known3 .given (c .before .before .loop .i))
+cast-with-wire : tie.Need-cast-with-wire Inv-loop μ-loop
+cast-with-wire c = omega (arith, c .shared-slice-known3 .given (c .before .before .loop .i))
 
-wire-record-requires : tie.Need-wire-record-requires Inv-loop μ-loop
-wire-record-requires c κs = set-inside _ _ _ (c .before .before .before .before .before .before .pre) (c .before .loop-test .taken)
-
-added-requires : tie.Need-added-requires Inv-loop μ-loop
-added-requires c κs = search needs
+with-wire-requires : tie.Need-with-wire-requires Inv-loop μ-loop
+with-wire-requires c κs = set-inside _ _ _ (c .before .before .before .before .before .before .pre) (c .before .loop-test .taken)
 
 add-i : tie.Need-add-i Inv-loop μ-loop
 add-i c = search needs
@@ -47,10 +44,8 @@ loop-less c = search needs
 
 loop-again : tie.Need-loop-again Inv-loop μ-loop
 loop-again c = (
-  omega (arith, c .before .before .before .loop-test .taken),
-  c .added .ensures .0
-      ∙ ap (plus (termsOf (c .before .before .before .before .loop .sum))) (c .before .wire-record .ensures)
-      ∙ total-more _ _ _ _ (c .before .before .before .loop-test .taken) (c .before .before .before .before .loop .inv .1),
+  omega (arith, c .before .before .loop-test .taken),
+  c .with-wire .ensures ∙ total-more _ _ _ _ (c .before .before .loop-test .taken) (c .before .before .before .loop .inv .1),
 )
 
 returns : tie.Need-returns Inv-loop μ-loop
@@ -64,11 +59,10 @@ sum-of-set-spec =
     μ-loop
     nothing-requires
     loop-holds
-    mul-wire-record
-    shared-slice-read-wire-record
-    cast-wire-record
-    wire-record-requires
-    added-requires
+    mul-with-wire
+    shared-slice-read-with-wire
+    cast-with-wire
+    with-wire-requires
     add-i
     loop-less
     loop-again

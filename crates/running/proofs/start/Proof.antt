@@ -1,0 +1,42 @@
+-- `running::start` meets its contract: what is added up is the set that was written.
+-- Assumes nothing.
+use borrow.Author.Needs.{needs}
+use Rattle.running.proofs.Exchanging.{started-inside, started, not-started}
+use Rattle.running.proofs.start.Statement.{statement}
+use Rattle.running.proofs.start.Tie as tie
+
+count-requires : tie.Need-count-requires
+count-requires c κs = search needs
+
+nothing-requires : tie.Need-nothing-requires
+nothing-requires c κs = search needs
+
+returns : tie.Need-returns
+returns c = not-started _ _ _ _ (c .before .before .count .ensures) (c .before .if1 .taken)
+
+unrank-requires : tie.Need-unrank-requires
+unrank-requires c κs = search needs
+
+sum-of-set-requires : tie.Need-sum-of-set-requires
+sum-of-set-requires c κs =
+    started-inside _ _ _ _ _ (c .before .before .before .before .before .before .before .before .before .args .set .now) (c .before .before .before .before .before .before .before .before .before .pre .1 .0) (c .before .before .before .before .before .before .count .ensures) (c .before .before .before .before .before .if1 .left) (c .before .before .before .unrank .ensures)
+
+same-length : tie.Need-same-length
+same-length c = search needs
+
+returns-2 : tie.Need-returns-2
+returns-2 c =
+    started _ _ _ _ _ (c .before .before .before .before .before .before .before .before .before .before .args .set .now) (c .before .before .before .before .before .before .before .before .before .before .pre .1 .0) (c .before .before .before .before .before .before .before .count .ensures) (c .before .before .before .before .before .before .if1 .left) (c .before .before .before .before .unrank .ensures) _
+    (c .sum-of-set .ensures .0) (c .sum-of-set .ensures .1)
+
+pub start-spec : {M : Type 1} → statement M
+start-spec =
+    tie.close
+    (tie.spec
+    count-requires
+    nothing-requires
+    returns
+    unrank-requires
+    sum-of-set-requires
+    same-length
+    returns-2)

@@ -1,0 +1,3 @@
+-- The definitions that the promises of `running` cite.
+--     Kept     the sum that a walk keeps
+pub mod Kept
