@@ -3,17 +3,18 @@
 --     taken-out            the sum of a set is that of a wire of it and of the others
 --     sum-exchanged        the sum of the next set, from that of the set before
 --     below-inside, set-inside      a set of a table's wires is inside the table
---     started-set, started-inside, started, not-started     the walk's start
---     leaves-inside, enters-inside, advanced                its step
-use Prim.Native.Nat.{ℕ, suc, _≤_, _<_}
-use native.Mathlib.Nat.{le-refl}
+--     part                          the first wires of a buffer, as the code cuts it
+--     started-inside, started, not-started                  the walk's start
+--     next-part, leaves-inside, enters-inside, advanced     its step
+use Prim.Native.Nat.{ℕ, suc, _-_, _≤_, _<_}
 use native.Mathlib.Omega.{arith}
 use mathlib.Core.Path.{_≡_, refl, sym, _∙_, ap, ap₂, subst}
 use mathlib.Core.Bool.{Bool, true, false, cond, not, _&&_, _||_, true≢false}
-use mathlib.Core.List.{List, [], _∷_, _++_, map, append-nil}
+use mathlib.Core.List.{List, [], _∷_, _++_, map}
 use borrow.Author.Tests.{ne-eqb, eqb-true}
 use lib.Dec.{eqb, ltb}
-use lib.ListN.{length, drop, drop-of-length-le}
+use lib.ListN.{length, take, drop}
+use lib.Seq.{take-at, length-take-le}
 use Rattle.basics.specs.Folds.{every}
 use Rattle.basics.proofs.Tests.{xor-self, xor-comm, and-right, or-cases}
 use Rattle.counts.specs.Counts.{binom}
@@ -89,43 +90,67 @@ set-inside table k s e =
     below-inside table s
     (and-right (rising s) (below (wireCount table) s) (and-right (eqb (length s) k) (rising s && below (wireCount table) s) e))
 
-module _ (table : List ℕ) (n rank sets : ℕ) (held old : List ℕ) (wires : n ≡ wireCount table) (counted : sets ≡ binom n (length old))
-    (more : rank < sets) (unranked : held ≡ setAt n (length old) rank ++ drop (length old) old) where
-  h : rank < binom n (length old)
-  h = omega (arith, counted, more)
+-- the first wires of a buffer, as the code cuts it
+pub part : (size : ℕ) (l : List ℕ) → take (size - 0) l ≡ take size l
+part size l = let same : size - 0 ≡ size = omega arith in ap (λ (i : ℕ). take i l) same
 
-  started-set : held ≡ setAt n (length old) rank
-  started-set =
-      unranked ∙ ap (λ (l : List ℕ). setAt n (length old) rank ++ l) (drop-of-length-le old (le-refl (length old)))
-      ∙ append-nil (setAt n (length old) rank)
+module _ (table : List ℕ) (n size rank sets : ℕ) (held old : List ℕ) (wires : n ≡ wireCount table) (counted : sets ≡ binom n size)
+    (more : rank < sets) (unranked : held ≡ setAt n size rank ++ drop size old) where
+  is-set : isSet n size (setAt n size rank) ≡ true
+  is-set = set-at-is-set n size rank (omega (arith, counted, more))
 
-  pub started-inside : inside table held ≡ true
+  started-set : take size held ≡ setAt n size rank
+  started-set = ap (take size) unranked ∙ take-at (setAt n size rank) (drop size old) size (isSet-parts n size (setAt n size rank) is-set .0)
+
+  pub started-inside : inside table (take (size - 0) held) ≡ true
   started-inside =
-      set-inside table (length old) held
-      (ap₂ (λ (m : ℕ) (l : List ℕ). isSet m (length old) l) (sym wires) started-set ∙ set-at-is-set n (length old) rank h)
+      set-inside table size (take (size - 0) held)
+      (ap₂ (λ (m : ℕ) (l : List ℕ). isSet m size l) (sym wires) (part size held ∙ started-set) ∙ is-set)
 
-  pub started : (t : Terms) → t ≡ total (map (wireAt table) held) → SumOfValues t (map (wireAt table) held)
-      → rank < binom n (length old) → (held ≡ setAt n (length old) rank) × SumKept table held t
-  started t e v less = (started-set, record { terms = e; values = v })
+  pub started : (t : Terms) → t ≡ total (map (wireAt table) (take (size - 0) held)) → SumOfValues t (map (wireAt table) (take (size - 0) held))
+      → rank < binom n size → (take size held ≡ setAt n size rank) × SumKept table (take size held) t
+  started t e v less =
+      (started-set, subst (λ (l : List ℕ). SumKept table l t) (part size held) (record { terms = e; values = v }))
 
 pub not-started : {A : Type 0} (n k rank count : ℕ) → count ≡ binom n k → count ≤ rank → rank < binom n k → A
 not-started n k rank count e h less = let z : ⊥ = omega arith in absurd z
 
-module _ (n : ℕ) (s t : List ℕ) (x y : ℕ) (next : HasNext n s) (e : Exchanged s t x y) where
+module _ (n : ℕ) (s t : List ℕ) (x y : ℕ) (next : HasNext n s) (moved : t ≡ nextSet n s) (e : Exchanged s t x y) where
+  chosen-next : Chosen 0 n t
+  chosen-next = isSet-parts n (length s) t (ap (isSet n (length s)) moved ∙ next-is-set n s next) .1
+
+  sum-advanced : (table : List ℕ) (kept left now : Terms) → SumKept table s kept → left ≡ plus kept (wireAt table x .terms)
+      → now ≡ plus left (wireAt table y .terms) → SumKept table t now
+  sum-advanced table kept left now sum out in-it =
+      let all : now ≡ total (map (wireAt table) t) =
+      in-it ∙ ap (λ (u : Terms). plus u (wireAt table y .terms)) (out ∙ ap (λ (u : Terms). plus u (wireAt table x .terms)) (sum .terms))
+      ∙ sum-exchanged (wireAt table) n x y s t (chosen n s next) chosen-next e in
+      record { terms = all; values = sum-of-values now (map (wireAt table) t) all }
+
+pub next-part : (n size : ℕ) (probes : List ℕ) → HasNext n (take size probes) → HasNext n (take (size - 0) probes)
+next-part n size probes next = subst (HasNext n) (sym (part size probes)) next
+
+-- the part of the buffer that the step took to t
+module _ (n size : ℕ) (probes t : List ℕ) (x y : ℕ) (next : HasNext n (take size probes))
+    (stepped : (t ≡ nextSet n (take (size - 0) probes)) × Exchanged (take (size - 0) probes) t x y) where
+  moved : (t ≡ nextSet n (take size probes)) × Exchanged (take size probes) t x y
+  moved = subst (λ (l : List ℕ). (t ≡ nextSet n l) × Exchanged l t x y) (part size probes) stepped
+
   pub leaves-inside : (m : ℕ) → n ≡ m → x < m
-  leaves-inside m wires = subst (λ (m : ℕ). x < m) wires (chosen-has 0 n x s (chosen n s next) (e .was))
+  leaves-inside m wires = subst (λ (m : ℕ). x < m) wires (chosen-has 0 n x (take size probes) (chosen n (take size probes) next) (moved .1 .was))
 
-  module _ (moved : t ≡ nextSet n s) where
-    chosen-next : Chosen 0 n t
-    chosen-next = isSet-parts n (length s) t (ap (isSet n (length s)) moved ∙ next-is-set n s next) .1
+  pub enters-inside : (m : ℕ) → n ≡ m → y < m
+  enters-inside m wires =
+      subst (λ (m : ℕ). y < m) wires (chosen-has 0 n y t (chosen-next n (take size probes) t x y next (moved .0) (moved .1)) (moved .1 .come))
 
-    pub enters-inside : (m : ℕ) → n ≡ m → y < m
-    enters-inside m wires = subst (λ (m : ℕ). y < m) wires (chosen-has 0 n y t chosen-next (e .come))
-
-    pub advanced : (table : List ℕ) (kept left now : Terms) → SumKept table s kept → left ≡ plus kept (wireAt table x .terms) → now ≡ plus left (wireAt table y .terms)
-        → SumKept table t now
-    advanced table kept left now sum out in-it =
-        let all : now ≡ total (map (wireAt table) t) =
-        in-it ∙ ap (λ (u : Terms). plus u (wireAt table y .terms)) (out ∙ ap (λ (u : Terms). plus u (wireAt table x .terms)) (sum .terms))
-        ∙ sum-exchanged (wireAt table) n x y s t (chosen n s next) chosen-next e in
-        record { terms = all; values = sum-of-values now (map (wireAt table) t) all }
+  pub advanced : (rest table : List ℕ) (kept left now : Terms) → size ≤ length probes → SumKept table (take size probes) kept
+      → left ≡ plus kept (wireAt table x .terms) → now ≡ plus left (wireAt table y .terms)
+      → (take size (t ++ rest) ≡ nextSet n (take size probes)) × SumKept table (take size (t ++ rest)) now
+  advanced rest table kept left now room sum out in-it =
+      let s = take size probes in
+      let long : length t ≡ size = ap length (moved .0) ∙ isSet-parts n (length s) (nextSet n s) (next-is-set n s next) .0 ∙ length-take-le size probes room in
+      let front : take size (t ++ rest) ≡ t = take-at t rest size long in (
+        front ∙ moved .0,
+        subst (λ (l : List ℕ). SumKept table l now) (sym front)
+            (sum-advanced n s t x y next (moved .0) (moved .1) table kept left now sum out in-it),
+      )

@@ -1,6 +1,9 @@
 -- The turns of the search's loops, over plain numbers and lists.
---     below-inside, set-inside     a set of a table's wires is inside the table
---     looked-inside, looked        the set that was unranked into a buffer: its wires are the table's; what the test says of it
+--     Held                         the walk stands at a rank
+--     held-start, held-next        it starts there, it comes there
+--     held-as                      the same by other names
+--     test-asks, looked            what the test of a set asks there, and what it says
+--     step-asks                    what the step asks
 --     searched-none, searched-suc  the sets of sizes up to 0, and up to one more
 --     RangeClean                   nothing found in the ranks of a range up to one
 --     rank-start, rank-next        at the start, and after a turn
@@ -10,7 +13,7 @@
 use Prim.Native.Nat.{ℕ, zero, suc, _+_, _-_, _≤_, _<_, zero-le}
 use native.Mathlib.Nat.{le-refl, le-of-suc-le-suc, eq-or-lt-of-le, not-suc-le-zero}
 use native.Mathlib.Omega.{arith}
-use mathlib.Core.Path.{_≡_, refl, sym, _∙_, ap, ap₂}
+use mathlib.Core.Path.{_≡_, refl, sym, _∙_, ap, ap₂, subst}
 use mathlib.Core.Logic.{_⊎_, inl, inr}
 use mathlib.Core.Bool.{Bool, true, false, _&&_}
 use mathlib.Core.List.{List, [], _∷_, _++_, map, append-assoc, append-nil}
@@ -22,47 +25,58 @@ use Rattle.basics.specs.Folds.{keep, every}
 use Rattle.basics.proofs.Tests.{and-right}
 use Rattle.basics.proofs.Folds.{keep-append}
 use Rattle.wires.specs.declared.Notion.{Notion}
-use Rattle.wires.specs.Wires.{breaks}
+use Rattle.wires.specs.Wires.{Terms, total, breaks}
 use Rattle.records.specs.Layout.{wireAt, wireCount, inside}
 use Rattle.counts.specs.Counts.{binom}
 use Rattle.revolving.specs.Order.{revolving, setAt, rising, below, isSet}
 use Rattle.revolving.proofs.Rising.{isSet-parts}
 use Rattle.revolving.proofs.Revolving.{revolving-length, set-at-is-set}
+use Rattle.walk.specs.Neighbours.{HasNext, nextSet}
+use Rattle.walk.proofs.Stepping.{has-next-at, next-at}
+use Rattle.running.specs.Kept.{SumKept}
+use Rattle.running.proofs.Exchanging.{part, set-inside}
 use Rattle.search.specs.Search.{searched, stretch, isBreaking, first, FirstSet, FirstRank}
 use Rattle.search.proofs.Keeping.{take-none, drop-none, keep-none-more, keep-found}
 
 -- ---- one set
 
-pub below-inside : (table s : List ℕ) → below (wireCount table) s ≡ true → inside table s ≡ true
-unfolding inside
-below-inside table s e = all s ∙ e
-  where
-    all : (s : List ℕ) → every (λ wire. ltb wire (wireCount table)) s ≡ below (wireCount table) s
-    all [] = refl
-    all (x ∷ s) = ap (λ (b : Bool). ltb x (wireCount table) && b) (all s)
+-- the walk stands at a rank: the buffer begins with its set, and the sum is that of the set's records
+pub record Held (table : List ℕ) (n k rank : ℕ) (held : List ℕ) (t : Terms) : Type 0 where
+  pub here : take k held ≡ setAt n k rank
+  pub kept : SumKept table (take k held) t
 
-pub set-inside : (table : List ℕ) (k : ℕ) (s : List ℕ) → isSet (wireCount table) k s ≡ true → inside table s ≡ true
-set-inside table k s e =
-    below-inside table s
-    (and-right (rising s) (below (wireCount table) s) (and-right (eqb (length s) k) (rising s && below (wireCount table) s) e))
+pub held-start : (table : List ℕ) (n k from to : ℕ) (held : List ℕ) (t : Terms) → to ≤ binom n k
+    → (from < binom n k → (take k held ≡ setAt n k from) × SumKept table (take k held) t) → from < to → Held table n k from held t
+held-start table n k from to held t h started less =
+    let there = started (omega arith) in record { here = there .0; kept = there .1 }
 
-module _ (table : List ℕ) (n k rank : ℕ) (held old : List ℕ) (wires : n ≡ wireCount table) (h : rank < binom n k)
-    (unranked : held ≡ setAt n k rank ++ drop k old) where
-  front : take (k - 0) held ≡ setAt n k rank
-  front =
-      let same : k - 0 ≡ k = omega arith in
-      ap₂ {C = List ℕ} (λ i l. take i l) same unranked ∙ take-at (setAt n k rank) (drop k old) k
-      (isSet-parts n k (setAt n k rank) (set-at-is-set n k rank h) .0)
+module _ (table : List ℕ) (n k rank to : ℕ) (held : List ℕ) (t : Terms) (wires : n ≡ wireCount table) (counted : to ≤ binom n k) (less : rank < to)
+    (h : Held table n k rank held t) where
+  pub test-asks : (inside table (take (k - 0) held) ≡ true) × (t ≡ total (map (wireAt table) (take (k - 0) held)))
+  test-asks = (
+    set-inside table k (take (k - 0) held)
+        (ap₂ (λ (m : ℕ) (l : List ℕ). isSet m k l) (sym wires) (part k held ∙ h .here) ∙ set-at-is-set n k rank (omega arith)),
+    h .kept .terms ∙ ap (λ (l : List ℕ). total (map (wireAt table) l)) (sym (part k held)),
+  )
 
-  pub looked-inside : inside table (take (k - 0) held) ≡ true
-  looked-inside =
-      set-inside table k (take (k - 0) held)
-      (ap₂ (λ (m : ℕ) (l : List ℕ). isSet m k l) (sym wires) front ∙ set-at-is-set n k rank h)
-
-  pub looked : (notion : Notion) (r : Bool) → r ≡ breaks notion maxShares maxMasks (map (wireAt table) (take (k - 0) held)) → r
-      ≡ isBreaking notion table maxShares maxMasks (setAt n k rank)
+  pub looked : (notion : Notion) (r : Bool) → r ≡ breaks notion maxShares maxMasks (map (wireAt table) (take (k - 0) held))
+      → r ≡ isBreaking notion table maxShares maxMasks (setAt n k rank)
   unfolding isBreaking
-  looked notion r e = e ∙ ap (λ (l : List ℕ). breaks notion maxShares maxMasks (map (wireAt table) l)) front
+  looked notion r e = e ∙ ap (λ (l : List ℕ). breaks notion maxShares maxMasks (map (wireAt table) l)) (part k held ∙ h .here)
+
+  module _ (more : rank + 1 < to) where
+    pub step-asks : HasNext n (take k held) × SumKept table (take k held) t
+    step-asks = (has-next-at n k rank (take k held) (h .here) (omega arith), h .kept)
+
+    pub held-next : (after : List ℕ) (u : Terms) → take k after ≡ nextSet n (take k held) → SumKept table (take k after) u
+        → Held table n k (rank + 1) after u
+    held-next after u e kept =
+        record { here = e ∙ next-at n k rank (take k held) (h .here) (omega arith); kept = kept }
+
+-- the same buffer and sum by other names
+pub held-as : (table : List ℕ) (n k rank : ℕ) (held l : List ℕ) (t u : Terms) → l ≡ held → u ≡ t → Held table n k rank held t → Held table n k rank l u
+held-as table n k rank held l t u p q h =
+    subst (λ (l : List ℕ). Held table n k rank l u) (sym p) (subst (λ (u : Terms). Held table n k rank held u) (sym q) h)
 
 -- ---- the ranks of a range
 
@@ -109,17 +123,15 @@ module _ (test : List ℕ → Bool) (n k from : ℕ) where
             ∙ ap {B = List (List ℕ)} (λ s. s ∷ rest) here,
       )
 
-  pub rank-found : (rank to : ℕ) (held old : List ℕ) → from ≤ rank → rank < to → to ≤ binom n k → RangeClean rank
-      → true ≡ test (setAt n k rank) → held ≡ setAt n k rank ++ drop k old → FirstRank test n k from to rank held
+  pub rank-found : (rank to : ℕ) (held : List ℕ) → from ≤ rank → rank < to → to ≤ binom n k → RangeClean rank
+      → true ≡ test (setAt n k rank) → take k held ≡ setAt n k rank → FirstRank test n k from to rank held
   unfolding RangeClean
-  rank-found rank to held old low high h clean e unranked =
-      let counted : rank < binom n k = omega arith in
-      let set = setAt n k rank in
+  rank-found rank to held low high h clean e here =
       record {
         low = low;
         high = omega arith;
         clean = clean;
-        found = λ less. (sym e, ap (take k) unranked ∙ take-at set (drop k old) k (isSet-parts n k set (set-at-is-set n k rank counted) .0));
+        found = λ less. (sym e, here);
       }
 
   pub rank-none : (rank to : ℕ) (held : List ℕ) → from ≤ rank → rank ≤ to → to ≤ rank → RangeClean rank → FirstRank test n k from to rank held
@@ -208,18 +220,18 @@ module _ (test : List ℕ → Bool) (n : ℕ) where
             ∙ ap {B = List (List ℕ)} (λ l. l ++ keep test (m .0)) (size-clean t none ∙ e),
       )
 
-  pub set-found : (size order rank : ℕ) (held old : List ℕ) → 1 ≤ size → size ≤ order → rank < binom n size → SizesClean size
+  pub set-found : (size order rank : ℕ) (held : List ℕ) → 1 ≤ size → size ≤ order → rank < binom n size → SizesClean size
       → RangeClean test n size 0 rank
-      → true ≡ test (setAt n size rank) → held ≡ setAt n size rank ++ drop size old → FirstSet test (searched n order) size held
+      → true ≡ test (setAt n size rank) → take size held ≡ setAt n size rank → FirstSet test (searched n order) size held
   unfolding SizesClean RangeClean
-  set-found zero order rank held old some h counted sizes ranks e unranked = absurd (not-suc-le-zero some)
-  set-found (suc t) order rank held old some h counted sizes ranks e unranked =
+  set-found zero order rank held some h counted sizes ranks e here = absurd (not-suc-le-zero some)
+  set-found (suc t) order rank held some h counted sizes ranks e here =
       let set = setAt n (suc t) rank in
       let all = binom n (suc t) in
-      let here = rank-first test n (suc t) 0 rank all zero-le counted (le-refl all) ranks (sym e) in
-      let found = first-of-size t order set (here .0) (sizes t refl) h (ap (keep test) (sym (stretch-all n (suc t) all (le-refl all))) ∙ here .1) in
+      let only = rank-first test n (suc t) 0 rank all zero-le counted (le-refl all) ranks (sym e) in
+      let found = first-of-size t order set (only .0) (sizes t refl) h (ap (keep test) (sym (stretch-all n (suc t) all (le-refl all))) ∙ only .1) in
       let long : length set ≡ suc t = isSet-parts n (suc t) set (set-at-is-set n (suc t) rank counted) .0 in
       record {
         size-is = sym long ∙ ap (λ (l : List (List ℕ)). length (first l)) (sym (found .1));
-        set-is = ap (take (suc t)) unranked ∙ take-at set (drop (suc t) old) (suc t) long ∙ ap first (sym (found .1));
+        set-is = here ∙ ap first (sym (found .1));
       }

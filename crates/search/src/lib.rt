@@ -1,39 +1,19 @@
-// The search behind verdict and range check: nested loops over size and rank, left by label with the breaking set. Each set is unranked
-// and its records added up anew; the loops know neither. These functions ask what the entries have tested.
+// The search behind verdict and range check: nested loops over size and rank, left by label with the breaking set. The first set of a size,
+// or of a range, is worked out from its rank; from there on the walk keeps set and sum. These functions ask what the entries have tested.
 ghost use mathlib.Core.Path.{_≡_};
-ghost use mathlib.Core.List.{_++_};
-ghost use Prim.Native.Nat.{_≤_, _<_};
-ghost use lib.ListN.{length, drop};
-ghost use Rattle.limits.specs.Limits.{maxShares, maxMasks, maxWires, maxTableBytes, maxSize};
+ghost use Prim.Native.Nat.{_≤_};
+ghost use lib.ListN.{length};
+ghost use Rattle.limits.specs.Limits.{maxShares, maxMasks, maxTableBytes, maxSize};
 ghost use Rattle.counts.specs.Counts.{binom, Counts};
-ghost use Rattle.revolving.specs.Order.{setAt};
 ghost use Rattle.records.specs.Layout.{wireCount};
 ghost use Rattle.search.specs.Search.{searched, isBreaking, FirstSet, FirstRank};
 use counts::count;
 use limits::COUNTS;
 use limits::RECORD_BYTES;
-use records::sums;
-use revolving::unrank;
+use records::sums::sum_breaks;
+use running::advance;
+use running::start;
 use wires::Notion;
-
-// Writes the set at a rank to the start of `probes`, and tells whether it breaks the notion.
-fn rank_breaks(
-    table: &[u8],
-    counts: &[u64; COUNTS],
-    notion: Notion,
-    wires: usize,
-    size: usize,
-    rank: u64,
-    probes: &mut [u16],
-) -> bool
-    requires { ⌜ Counts (now counts) ⌝ }
-    requires { ⌜ (wires ≡ wireCount (now table)) × (wires ≤ maxWires) × (size ≤ maxSize) × (size ≤ length (now probes)) × (rank < binom wires size) ⌝ }
-    ensures { λ r. ⌜ r ≡ isBreaking notion (now (table .entry)) maxShares maxMasks (setAt wires size rank) ⌝ }
-    ensures { λ r. ⌜ now (probes .exit) ≡ setAt wires size rank ++ drop size (now (probes .entry)) ⌝ }
-{
-    unrank(counts, wires, size, rank, probes);
-    sums::set_breaks(table, notion, &probes[0..size])
-}
 
 // The size of the first breaking set in rising size and rank, with the set at the start of `probes`, or 0.
 pub fn first_breaking(table: &[u8], notion: Notion, order: usize, probes: &mut [u16]) -> usize
@@ -45,10 +25,14 @@ pub fn first_breaking(table: &[u8], notion: Notion, order: usize, probes: &mut [
     let mut found = 0;
     'search: for size in 1..=order {
         let sets = count(&counts, wires, size);
+        let mut sum = start(table, &counts, wires, size, 0, probes);
         for rank in 0..sets {
-            if rank_breaks(table, &counts, notion, wires, size, rank, probes) {
+            if sum_breaks(table, notion, &probes[0..size], sum) {
                 found = size;
                 break 'search;
+            }
+            if rank + 1 < sets {
+                sum = advance(table, wires, size, probes, sum);
             }
         }
     }
@@ -71,11 +55,15 @@ pub fn first_rank(
 {
     let wires = table.len() / RECORD_BYTES;
     let mut rank = from;
+    let mut sum = start(table, counts, wires, size, from, probes);
     while rank < to {
-        if rank_breaks(table, counts, notion, wires, size, rank, probes) {
+        if sum_breaks(table, notion, &probes[0..size], sum) {
             return rank;
         }
         rank += 1;
+        if rank < to {
+            sum = advance(table, wires, size, probes, sum);
+        }
     }
     rank
 }

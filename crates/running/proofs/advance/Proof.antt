@@ -1,23 +1,27 @@
 -- `running::advance` meets its contract: the wires that leave and enter are all that changes in the sum.
 -- Assumes nothing.
 use borrow.Author.Needs.{needs}
-use Rattle.running.proofs.Exchanging.{leaves-inside, enters-inside, advanced}
+use Rattle.running.proofs.Exchanging.{next-part, leaves-inside, enters-inside, advanced}
 use Rattle.running.proofs.advance.Statement.{statement}
 use Rattle.running.proofs.advance.Tie as tie
 
+sub-step : tie.Need-sub-step
+sub-step c = search needs
+
+part-step-start : tie.Need-part-step-start
+part-step-start c = search needs
+
+part-step-end : tie.Need-part-step-end
+part-step-end c = search needs
+
 step-requires : tie.Need-step-requires
-step-requires c κs = search needs
+step-requires c κs = (c .before .before .before .pre .0 .1, next-part _ (c .before .before .before .args .size) (c .before .before .before .args .probes .now) (c .before .before .before .pre .1 .0))
 
 with-wire-requires : tie.Need-with-wire-requires
-with-wire-requires c κs =
-    let start = c .before .before .before .before .before .before .pre in
-    leaves-inside _ _ _ _ _ (start .2) (c .before .before .step .ensures .1) _ (start .0)
+with-wire-requires c κs = leaves-inside _ (c .before .before .before .before .before .before .args .size) (c .before .before .before .before .before .before .args .probes .now) _ _ _ (c .before .before .before .before .before .before .pre .1 .0) (c .before .before .step .ensures) _ (c .before .before .before .before .before .before .pre .0 .0)
 
 with-wire-requires-2 : tie.Need-with-wire-requires-2
-with-wire-requires-2 c κs =
-    let start = c .before .before .before .before .before .before .before .pre in
-    let moved = c .before .before .before .step .ensures in
-    enters-inside _ _ _ _ _ (start .2) (moved .1) (moved .0) _ (start .0)
+with-wire-requires-2 c κs = enters-inside _ (c .before .before .before .before .before .before .before .args .size) (c .before .before .before .before .before .before .before .args .probes .now) _ _ _ (c .before .before .before .before .before .before .before .pre .1 .0) (c .before .before .before .step .ensures) _ (c .before .before .before .before .before .before .before .pre .0 .0)
 
 same-length : tie.Need-same-length
 same-length c = search needs
@@ -25,9 +29,17 @@ same-length c = search needs
 returns : tie.Need-returns
 returns c =
     let start = c .before .before .before .before .before .before .before .before .pre in
-    let moved = c .before .before .before .before .step .ensures in
-    (moved .0, advanced _ _ _ _ _ (start .2) (moved .1) (moved .0) _ _ _ _ (start .3) (c .before .with-wire .ensures) (c .with-wire2 .ensures))
+    advanced _ (c .before .before .before .before .before .before .before .before .args .size) (c .before .before .before .before .before .before .before .before .args .probes .now) _ _ _ (start .1 .0) (c .before .before .before .before .step .ensures) _ _ _ _ _ (start .0 .2) (start .1 .1) (c .before .with-wire .ensures) (c .with-wire2 .ensures)
 
 pub advance-spec : {M : Type 1} → statement M
 advance-spec =
-    tie.close (tie.spec step-requires with-wire-requires with-wire-requires-2 same-length returns)
+    tie.close
+    (tie.spec
+    sub-step
+    part-step-start
+    part-step-end
+    step-requires
+    with-wire-requires
+    with-wire-requires-2
+    same-length
+    returns)

@@ -17,16 +17,24 @@ returns c = not-started _ _ _ _ (c .before .before .count .ensures) (c .before .
 unrank-requires : tie.Need-unrank-requires
 unrank-requires c κs = search needs
 
+sub-sum-of-set : tie.Need-sub-sum-of-set
+sub-sum-of-set c = search needs
+
+part-sum-of-set-start : tie.Need-part-sum-of-set-start
+part-sum-of-set-start c = search needs
+
+part-sum-of-set-end : tie.Need-part-sum-of-set-end
+part-sum-of-set-end c = search needs
+
 sum-of-set-requires : tie.Need-sum-of-set-requires
-sum-of-set-requires c κs =
-    started-inside _ _ _ _ _ (c .before .before .before .before .before .before .before .before .before .args .set .now) (c .before .before .before .before .before .before .before .before .before .pre .1 .0) (c .before .before .before .before .before .before .count .ensures) (c .before .before .before .before .before .if1 .left) (c .before .before .before .unrank .ensures)
+sum-of-set-requires c κs = started-inside _ _ _ _ _ _ _ (c .before .before .before .before .before .before .before .before .before .before .pre .1 .0) (c .before .before .before .before .before .before .before .count .ensures) (c .before .before .before .before .before .before .if1 .left) (c .before .before .before .before .unrank .ensures)
 
 same-length : tie.Need-same-length
 same-length c = search needs
 
 returns-2 : tie.Need-returns-2
 returns-2 c =
-    started _ _ _ _ _ (c .before .before .before .before .before .before .before .before .before .before .args .set .now) (c .before .before .before .before .before .before .before .before .before .before .pre .1 .0) (c .before .before .before .before .before .before .before .count .ensures) (c .before .before .before .before .before .before .if1 .left) (c .before .before .before .before .unrank .ensures) _
+    started _ _ _ _ _ _ _ (c .before .before .before .before .before .before .before .before .before .before .before .pre .1 .0) (c .before .before .before .before .before .before .before .before .count .ensures) (c .before .before .before .before .before .before .before .if1 .left) (c .before .before .before .before .before .unrank .ensures) _
     (c .sum-of-set .ensures .0) (c .sum-of-set .ensures .1)
 
 pub start-spec : {M : Type 1} → statement M
@@ -37,6 +45,9 @@ start-spec =
     nothing-requires
     returns
     unrank-requires
+    sub-sum-of-set
+    part-sum-of-set-start
+    part-sum-of-set-end
     sum-of-set-requires
     same-length
     returns-2)
