@@ -196,12 +196,16 @@ uint64_t walk_by_exchange(const struct range *given, uint16_t *set)
         if (last >= range.to)
             last = range.to - 1;
         size_t lowest = c[0];
-        for (; !running_breaks(&running) && rank < last; rank++) {
+        int broken;
+        for (;; rank++) {
+            broken = running_breaks(&running);
+            if (broken || rank == last)
+                break;
             exchange(&running, &range, lowest, lowest + move);
             lowest += move;
         }
         c[0] = (uint16_t)lowest;
-        if (running_breaks(&running)) {
+        if (broken) {
             memcpy(set, c, sizeof *set * range.size);
             return rank;
         }
