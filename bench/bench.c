@@ -1,7 +1,8 @@
 /*
- * Times the engine's range check against the two C searches of walk.h, in one run and by turns, over tables that hold:
- * every set of a size is visited. Before that it compares all three, answer, rank and set, over random tables of which
- * some break and some hold. It tests no time; `bench/run` builds and runs it.
+ * Times the engine's range check against the C of walk.h that keeps a running sum, and the engine's verdict against its
+ * range check, in one run and by turns, over tables that hold: every set is visited. Before that the searches have to
+ * agree (compare.h). A ratio is called ok or not by its target; no time decides on the exit status. `bench/run` builds
+ * and runs it.
  *
  * exit status: 0 the times were printed; 1 the searches differ
  */
@@ -9,137 +10,76 @@
 #include <inttypes.h>
 #include <stdio.h>
 #include <stdlib.h>
-#include <string.h>
 #include <time.h>
 
 #include "calduvren.h"
+#include "compare.h"
+#include "engine.h"
+#include "tables.h"
 #include "walk.h"
 
-#define TURNS 5 /* odd, so that there is a median */
-#define WARMING 10 /* one set in so many is visited before the clock runs */
-#define RANDOM_TABLES 2000
-#define RANDOM_RANKS 500
-#define SEARCHES 3
+#define TURNS 7 /* odd, so that there is a median */
+#define TURN_SECONDS 0.04 /* a turn repeats its search for so long: one alone may take 6 milliseconds */
+#define TARGET_MASKED 1.2 /* engine to C */
+#define TARGET_UNMASKED 1.5
+#define TARGET_VERDICT 1.1 /* verdict to range checks */
 
-static uint8_t table[CALDUVREN_MAX_TABLE_BYTES];
-
-/* The engine's answer as walk.h gives it. A table may use all shares and masks that there are. */
-static uint64_t engine(const struct range *range, uint16_t *set)
-{
-    uint64_t clean = 0, rank = 0;
-    size_t found = 0;
-    calduvren_status status = calduvren_range_check(range->table, CALDUVREN_RECORD_BYTES * range->wires,
-                                                    CALDUVREN_MAX_SHARES, CALDUVREN_MAX_MASKS, range->notion,
-                                                    range->size, range->from, range->to, set, CALDUVREN_MAX_SIZE,
-                                                    &clean, &found, &rank);
-    if (status != 0 || (!clean && found != range->size)) {
-        printf("bench: the engine gave %" PRIu64 " and a set of %zu wires\n", status, found);
-        exit(1);
-    }
-    return clean ? range->to : rank;
-}
-
-static const struct {
-    const char *name;
-    uint64_t (*first_breaking)(const struct range *range, uint16_t *set);
-} searches[SEARCHES] = {
-    {"engine", engine},
-    {"C, each set from its rank", walk_by_rank},
-    {"C, running sum", walk_by_exchange},
+/* What is searched: the sets of `size` out of the table's wires, or those of every size from 1 to it. */
+struct task {
+    size_t wires, notion, size;
 };
 
-/* Sebastiano Vigna's splitmix64: the same numbers in every run. */
-static uint64_t random_word(void)
+static struct range all_ranks(const struct task *task, size_t size)
 {
-    static uint64_t state;
-    uint64_t word = state += 0x9e3779b97f4a7c15;
-    word = (word ^ word >> 30) * 0xbf58476d1ce4e5b9;
-    word = (word ^ word >> 27) * 0x94d049bb133111eb;
-    return word ^ word >> 31;
+    return (struct range){table, task->wires, task->notion, size, 0, walk_count(task->wires, size)};
 }
 
-static uint64_t random_below(uint64_t bound)
+static void must_hold(int holds, const char *name)
 {
-    return random_word() % bound;
+    if (holds)
+        return;
+    printf("bench: %s finds a breaking set in a table that holds\n", name);
+    exit(1);
 }
 
-static void write_record(size_t wire, uint64_t products, uint64_t masks, uint64_t shares_a, uint64_t shares_b,
-                         uint64_t outer)
+static void search_c(const struct task *task)
 {
-    uint8_t *record = table + CALDUVREN_RECORD_BYTES * wire;
-    for (size_t i = 0; i < 8; i++) {
-        record[i] = (uint8_t)(products >> 8 * i);
-        record[8 + i] = (uint8_t)(masks >> 8 * i);
-    }
-    record[16] = (uint8_t)shares_a;
-    record[17] = (uint8_t)shares_b;
-    record[18] = (uint8_t)outer;
+    uint16_t set[CALDUVREN_MAX_SIZE];
+    struct range range = all_ranks(task, task->size);
+    must_hold(walk_by_exchange(&range, set) == range.to, "C");
 }
 
-/* Of 64 random masks no few wires' add up to none, so every sum keeps one and the test of the masks ends each set. */
-static void fill_masked(size_t wires)
+static void search_range(const struct task *task)
 {
-    for (size_t wire = 0; wire < wires; wire++)
-        write_record(wire, random_word(), random_word(), random_word(), random_word(), 0);
+    uint16_t set[CALDUVREN_MAX_SIZE];
+    struct range range = all_ranks(task, task->size);
+    must_hold(engine_range_check(&range, set) == range.to, "the range check");
 }
 
-/* No masks, one product a wire: each sum's shares are counted, and are never more than its wires. */
-static void fill_unmasked(size_t wires)
+static void search_ranges(const struct task *task)
 {
-    for (size_t wire = 0; wire < wires; wire++)
-        write_record(wire, (uint64_t)1 << random_below(64), 0, 0, 0, 0);
+    for (size_t size = 1; size <= task->size; size++)
+        search_range(&(struct task){task->wires, task->notion, size});
 }
 
-/* Few masks and few bits: some sets break and some do not, and sums cancel. */
-static void fill_mixed(size_t wires)
+static void search_verdict(const struct task *task)
 {
-    uint64_t masks = (uint64_t)1 << random_below(10);
-    for (size_t wire = 0; wire < wires; wire++)
-        write_record(wire, random_below(3) ? (uint64_t)1 << random_below(64) : 0, random_below(masks),
-                     random_below(4) ? 0 : 1 << random_below(8), random_below(4) ? 0 : 1 << random_below(8),
-                     random_below(2));
+    uint16_t set[CALDUVREN_MAX_SIZE];
+    must_hold(engine_verdict(table, task->wires, task->notion, task->size, set) == 0, "the verdict");
 }
 
-/* What all three find first; where they differ, that ends the run. */
-static uint64_t agreed(const struct range *range)
-{
-    uint16_t sets[SEARCHES][CALDUVREN_MAX_SIZE];
-    uint64_t ranks[SEARCHES];
-    memset(sets, 0, sizeof sets);
-    for (size_t i = 0; i < SEARCHES; i++) {
-        ranks[i] = searches[i].first_breaking(range, sets[i]);
-        int same_set = memcmp(sets[i], sets[0], sizeof *sets[0] * range->size) == 0;
-        if (ranks[i] != ranks[0] || (ranks[0] < range->to && !same_set)) {
-            printf("bench: %zu wires, notion %zu, size %zu, ranks %" PRIu64 " to %" PRIu64 ": %s gives %" PRIu64
-                   ", %s %" PRIu64 "\n", range->wires, range->notion, range->size, range->from, range->to,
-                   searches[0].name, ranks[0], searches[i].name, ranks[i]);
-            exit(1);
-        }
-    }
-    return ranks[0];
-}
+enum { C, RANGE, RANGES, VERDICT, SEARCHES };
 
-/* Compares the searches on random tables, few wires and many, and goes on after each breaking set. */
-static void compare(void)
+static void (*const searches[SEARCHES])(const struct task *task) = {search_c, search_range, search_ranges,
+                                                                    search_verdict};
+
+/* How many sets one search visits. */
+static uint64_t visited(size_t search, const struct task *task)
 {
-    unsigned broken = 0, held = 0;
-    for (unsigned i = 0; i < RANDOM_TABLES; i++) {
-        size_t most_wires = i % 2 == 0 ? 16 : CALDUVREN_MAX_WIRES;
-        struct range range = {table, random_below(most_wires + 1), 1 + random_below(2), random_below(8), 0, 0};
-        uint64_t sets = walk_count(range.wires, range.size);
-        range.from = i % 4 < 2 ? 0 : random_below(sets + 1);
-        range.to = sets - range.from < RANDOM_RANKS ? sets : range.from + RANDOM_RANKS;
-        fill_mixed(range.wires);
-        while (range.from < range.to) {
-            uint64_t rank = agreed(&range);
-            broken += rank < range.to;
-            held += rank == range.to;
-            range.from = rank + 1;
-        }
-    }
-    printf("all three agree on %u random ranges that break and %u that hold\n", broken, held);
-    if (broken == 0 || held == 0)
-        exit(1);
+    uint64_t sets = 0;
+    for (size_t size = search == C || search == RANGE ? task->size : 1; size <= task->size; size++)
+        sets += walk_count(task->wires, size);
+    return sets;
 }
 
 static double seconds(void)
@@ -149,59 +89,87 @@ static double seconds(void)
     return (double)now.tv_sec + 1e-9 * (double)now.tv_nsec;
 }
 
+/* One turn of a search: its nanoseconds a set. */
+static double nanoseconds(size_t search, const struct task *task)
+{
+    unsigned times = 0;
+    double start = seconds(), end = start;
+    for (; end - start < TURN_SECONDS; times++) {
+        searches[search](task);
+        end = seconds();
+    }
+    return 1e9 * (end - start) / (double)times / (double)visited(search, task);
+}
+
 static int rising(const void *left, const void *right)
 {
     double x = *(const double *)left, y = *(const double *)right;
     return (x > y) - (x < y);
 }
 
-/* The nanoseconds a set of one search over a range that holds. */
-static double nanoseconds(size_t search, const struct range *range)
+/* Prints the medians of a yardstick and of what is held against it, their ratio, that of the least of the turns, and
+ * whether the first ratio is within the target. Both times rise. */
+static void print_ratio(const double *yardstick, const double *held, double target)
 {
-    uint16_t set[CALDUVREN_MAX_SIZE];
-    double start = seconds();
-    uint64_t rank = searches[search].first_breaking(range, set);
-    double end = seconds();
-    if (rank != range->to) {
-        printf("bench: %s finds a breaking set in a table that holds\n", searches[search].name);
-        exit(1);
-    }
-    return 1e9 * (end - start) / (double)(range->to - range->from);
+    double ratio = held[TURNS / 2] / yardstick[TURNS / 2];
+    printf(" %7.2f %7.2f %6.2f %6.2f %4s", yardstick[TURNS / 2], held[TURNS / 2], ratio, held[0] / yardstick[0],
+           ratio <= target ? "ok" : "not");
 }
 
-/* Times the three by turns over all sets of a size, and prints a row for each. */
-static void time_all(const char *name, size_t wires, size_t size)
+/* Times all four by turns, and prints a row. */
+static void time_task(const struct task *task, const char *name, double target)
 {
-    uint64_t sets = walk_count(wires, size);
-    struct range warming = {table, wires, CALDUVREN_NI, size, 0, sets / WARMING};
-    struct range range = {table, wires, CALDUVREN_NI, size, 0, sets};
     double times[SEARCHES][TURNS];
-    agreed(&warming);
+    for (size_t i = 0; i < SEARCHES; i++)
+        searches[i](task); /* warming */
     for (size_t turn = 0; turn < TURNS; turn++)
         for (size_t i = 0; i < SEARCHES; i++)
-            times[i][turn] = nanoseconds(i, &range);
+            times[i][turn] = nanoseconds(i, task);
     for (size_t i = 0; i < SEARCHES; i++)
         qsort(times[i], TURNS, sizeof times[i][0], rising);
-    for (size_t i = 0; i < SEARCHES; i++)
-        printf("%-20s %5zu %4zu %7" PRIu64 "  %-25s %8.2f %8.2f %8.2f\n", name, wires, size, sets, searches[i].name,
-               times[i][0], times[i][TURNS / 2], times[0][TURNS / 2] / times[i][TURNS / 2]);
+    printf("%-8s %-6s %5zu %4zu", name, task->notion == CALDUVREN_NI ? "NI" : "SNI", task->wires, task->size);
+    print_ratio(times[C], times[RANGE], target);
+    printf("   ");
+    print_ratio(times[RANGES], times[VERDICT], TARGET_VERDICT);
+    printf("\n");
+    fflush(stdout);
+}
+
+static void time_both_notions(size_t wires, size_t size, const char *name, double target)
+{
+    for (size_t notion = CALDUVREN_NI; notion <= CALDUVREN_SNI; notion++)
+        time_task(&(struct task){wires, notion, size}, name, target);
+}
+
+static void print_head(void)
+{
+    printf("nanoseconds a set, medians of %d turns; the ratio is that of the medians, beside it that of the least\n",
+           TURNS);
+    printf("targets: range check to C at most %.1f where masks remain, %.1f where there are none;"
+           " verdict to range checks at most %.1f\n\n", TARGET_MASKED, TARGET_UNMASKED, TARGET_VERDICT);
+    printf("%-26s %34s   %34s\n", "", "all sets of the size", "all sets of the sizes from 1");
+    printf("%-8s %-6s %5s %4s", "masks", "notion", "wires", "size");
+    printf(" %7s %7s %6s %6s %4s   ", "C", "range", "ratio", "least", "");
+    printf(" %7s %7s %6s %6s\n", "ranges", "verdict", "ratio", "least");
 }
 
 int main(void)
 {
     static const struct {
         size_t wires, size;
-    } shapes[] = {{100, 4}, {60, 5}};
+    } shapes[] = {{100, 4}, {60, 5}, {34, 7}};
+    const size_t number = sizeof shapes / sizeof shapes[0];
     walk_prepare();
-    compare();
-    printf("nanoseconds a set, of %d turns; the ratio is the engine's median to the row's\n\n", TURNS);
-    printf("%-20s %5s %4s %7s  %-25s %8s %8s %8s\n", "table (NI holds)", "wires", "size", "sets", "search", "least",
-           "median", "ratio");
-    for (size_t i = 0; i < sizeof shapes / sizeof shapes[0]; i++) {
+    compare_random();
+    for (size_t i = 0; i < number; i++)
+        compare_planted(shapes[i].wires, shapes[i].size);
+    printf("all agree on tables of the timed shapes in which one set breaks\n\n");
+    print_head();
+    for (size_t i = 0; i < number; i++) {
         fill_masked(shapes[i].wires);
-        time_all("a mask in every sum", shapes[i].wires, shapes[i].size);
+        time_both_notions(shapes[i].wires, shapes[i].size, "remain", TARGET_MASKED);
         fill_unmasked(shapes[i].wires);
-        time_all("no masks", shapes[i].wires, shapes[i].size);
+        time_both_notions(shapes[i].wires, shapes[i].size, "none", TARGET_UNMASKED);
     }
     return 0;
 }

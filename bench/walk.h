@@ -1,6 +1,7 @@
 /*
- * Two searches in C for the first breaking set among the sets of one size, to time the engine's range check against.
- * Both visit the sets in the order of their ranks and look at the records where they stand in the table.
+ * Two searches in C for the first breaking set among the sets of one size. Both visit the sets in the order of their
+ * ranks and look at the records where they stand in the table. The engine is timed against walk_by_exchange;
+ * walk_by_rank, which is the plainer, only has to agree.
  */
 #ifndef WALK_H
 #define WALK_H
