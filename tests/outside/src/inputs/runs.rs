@@ -1,6 +1,7 @@
 //! Runs of the program `report`: texts in every way in which a text may come, inputs that can not be read, outputs that
 //! can not be written, and texts for its notes, which standard error may not take.
 
+use super::calls::show_text;
 use super::damage::damaged;
 use super::files;
 use super::gadgets::{self, Cross, End};
@@ -9,10 +10,12 @@ use super::sums;
 use super::texts::sound;
 use super::words;
 use crate::child::{Call, Error, Input, Output};
+use crate::model::plan::in_all;
 use crate::model::reading::MAX_TEXT_BYTES;
 use crate::model::records::MAX_WIRES;
 use crate::model::report::report;
 use crate::model::sets::MAX_SIZE;
+use crate::model::sizes::Size;
 use crate::passes::examples::{A, B};
 use crate::random::Random;
 use std::path::PathBuf;
@@ -24,13 +27,17 @@ const MOST_SETS_OF_DRAWN: u64 = 20_000;
 /// so that the sets stay below 3 million of a size.
 const LATE: [(usize, usize); 5] = [(6, 2), (5, 11), (4, 14), (3, 17), (2, 20)];
 
+/// A verdict that looks at so many sets does not end in the second that it is given: at a nanosecond a set, which no
+/// search is known to reach, it would take ten.
+const LEAST_OF_LONG: u64 = 10_000_000_000;
+
 /// What the program has to print, and to say on standard error.
 pub enum Expected {
     /// The report on this text, and its notes.
     Report(Vec<u8>),
     /// The report on this text, whose first breaking set has so many wires under either notion, and its notes.
     Late(Vec<u8>, usize),
-    /// Nothing, and no end either: a verdict on this text that looks at every set, 100 million or more, takes far
+    /// Nothing, and no end either: a verdict on this text that looks at every set, `LEAST_OF_LONG` or more, takes far
     /// longer than the program is given. One that ends has not looked. That it is long is said, and so is what the
     /// function is not.
     Long(Vec<u8>),
@@ -84,23 +91,31 @@ fn late() -> Vec<Case> {
 fn long() -> Vec<Case> {
     let mut product = gadgets::multiplication(MAX_SIZE, |_, _| Cross::MaskFirst);
     product.lines[MAX_SIZE] = product.lines[MAX_SIZE].replace("s77 ", "");
-    let texts = [product, gadgets::late(MAX_SIZE, End::Mask, 40)].map(|gadget| gadget.text());
-    let case = |text: Vec<u8>| Case {
-        call: at_once(&text).call,
-        expected: Expected::Long(text),
+    let texts = [product, gadgets::late(MAX_SIZE, End::Mask, 50)].map(|gadget| gadget.text());
+    let case = |text: Vec<u8>| {
+        assert!(is_long(&text), "too few sets to be long: {}", show_text(&text));
+        Case {
+            call: at_once(&text).call,
+            expected: Expected::Long(text),
+        }
     };
     texts.map(case).into()
 }
 
-/// Every text of the list, as a file.
+/// Whether a verdict on a text that can be read would not end while the program runs, where it holds.
+fn is_long(text: &[u8]) -> bool {
+    Size::of(text).is_ok_and(|size| in_all(&size) >= LEAST_OF_LONG)
+}
+
+/// Every text of the list, as a file. Of those that are not for a report there, some have few enough sets for one here.
 fn of_files() -> Vec<Case> {
     let case = |(kind, path): (String, PathBuf)| {
         let text = files::read(&path);
         Case {
             call: Call::on(Input::File(path)),
-            expected: match kind.as_str() {
-                "report" => Expected::Report(text),
-                _ => Expected::Long(text),
+            expected: match kind != "report" && is_long(&text) {
+                true => Expected::Long(text),
+                false => Expected::Report(text),
             },
         }
     };
