@@ -9,6 +9,9 @@ pub mod plan;
 mod plan_lines;
 pub mod sizes;
 mod sums;
+mod walk_ranges;
+mod walk_sums;
+pub mod walks;
 mod words;
 
 use crate::model;
@@ -150,6 +153,7 @@ pub fn name_all(tally: &mut Tally) {
     isw::name_all(tally);
     sizes::name_all(tally);
     plan::name_all(tally);
+    walks::name_all(tally);
     VERDICTS.iter().for_each(|(name, _, _)| tally.expect_fault(name));
     for name in [TWO_SYMBOLS, NO_SUMS, TURNED_DOWN, NO_TABLE, CLEAN, INVENTED_COUNT] {
         tally.expect_fault(name);

@@ -11,6 +11,7 @@ pub mod runs;
 pub mod sums;
 pub mod tables;
 pub mod texts;
+pub mod walks;
 pub mod words;
 
 /// Numbers that no limit of the scope allows, some with low bits that would be allowed if they were all that is read.

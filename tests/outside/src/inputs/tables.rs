@@ -25,7 +25,7 @@ fn symbol(random: &mut Random, shares: usize, masks: usize) -> Record {
 }
 
 /// A sum of up to `terms` symbols.
-fn record(random: &mut Random, shares: usize, masks: usize, terms: usize) -> Record {
+pub fn record(random: &mut Random, shares: usize, masks: usize, terms: usize) -> Record {
     let terms = random.between(0, terms);
     (0..terms).fold(Record::default(), |sum, _| sum.plus(symbol(random, shares, masks)))
 }
@@ -102,7 +102,7 @@ fn injure(random: &mut Random, table: &mut Table) {
 
 /// Wires of one ring of masks: only all `size` of them together have no mask. Their sum names `seen` shares of an
 /// operand, and the wires name more shares that cancel in it.
-fn ring(random: &mut Random, shares: usize, size: usize, seen: usize) -> Vec<Record> {
+pub fn ring(random: &mut Random, shares: usize, size: usize, seen: usize) -> Vec<Record> {
     let mut wires: Vec<Record> = (0..size).map(|_| record(random, shares, 0, 3)).collect();
     let others = wires[1..].iter().fold(Record::default(), |sum, wire| sum.plus(*wire));
     wires[0] = sum_that_names(random, shares, seen).plus(others);

@@ -12,6 +12,7 @@ pub mod records;
 pub mod report;
 pub mod sets;
 pub mod sizes;
+pub mod stretch;
 pub mod symbols;
 pub mod trees;
 pub mod wires;
@@ -135,7 +136,11 @@ pub fn range_check(table: &[u8], [shares, masks, notion, size, set_length]: [usi
     if from > to || to > sets::count(records.len(), size) {
         return Reply::refused(18);
     }
-    match breaking::in_range(&records, size, notion, [from, to]) {
+    found_by_range(size, breaking::in_range(&records, size, notion, [from, to]))
+}
+
+pub fn found_by_range(size: usize, found: Option<Found>) -> Reply {
+    match found {
         None => Reply::answered(&[1], Vec::new()),
         Some(Found { rank, set }) => Reply::answered(&[0, size as u64, rank], set),
     }

@@ -15,11 +15,13 @@ mod programs;
 mod ranges;
 mod refusals;
 mod reports;
+mod seams;
 mod sets;
 mod sizes;
 mod stack;
 mod texts;
 mod verdicts;
+mod walks;
 mod watcher;
 mod words;
 
@@ -29,7 +31,7 @@ use crate::tally::Tally;
 
 type Pass = fn(&mut Random, &mut Tally);
 
-const PASSES: [Pass; 20] = [
+const PASSES: [Pass; 22] = [
     guards::run,
     examples::run,
     sets::run,
@@ -50,6 +52,8 @@ const PASSES: [Pass; 20] = [
     isw_program::run,
     sizes::run,
     plan_program::run,
+    walks::run,
+    seams::run,
 ];
 
 pub fn run_all(seed: u64, tally: &mut Tally) {
