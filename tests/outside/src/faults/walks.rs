@@ -49,8 +49,11 @@ pub const RIGHT: Walk = Walk {
     shown: |stretch, [_, place]| at(stretch, place),
 };
 
-/// A wrong verdict: how it walks through each size, and what of a size's last set it takes over to the next size.
-const VERDICTS: [(&str, Walk, fn(Kept) -> Kept); 4] = [
+/// What is taken over to the next size, from what was kept at a size's last set.
+type TakenOver = fn(Kept) -> Kept;
+
+/// A wrong verdict: how it walks through each size, and what it takes over. The right one takes over nothing.
+const VERDICTS: [(&str, Walk, TakenOver); 4] = [
     (
         "a verdict passes over the first set of each size",
         Walk {
