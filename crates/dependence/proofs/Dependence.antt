@@ -19,7 +19,7 @@ use Rattle.records.specs.Layout.{wireAt, wireCount, inside}
 use Rattle.table.proofs.Entries.{set-within}
 use Rattle.revolving.specs.Order.{rising, below}
 use Rattle.revolving.proofs.Rising.{parts-isSet}
-use Rattle.search.proofs.Turns.{set-inside}
+use Rattle.running.proofs.Exchanging.{set-inside}
 use Rattle.verdict_answers.specs.declared.Refusal.{Refusal}
 use Rattle.verdict_answers.specs.declared.Refusal.the-variants.{SizeTooLarge, NotASet}
 use Rattle.verdict_answers.specs.declared.DependenceAnswer.{DependenceAnswer}

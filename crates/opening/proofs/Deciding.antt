@@ -17,7 +17,7 @@ use Rattle.revolving.specs.Order.{revolving, setAt, isSet}
 use Rattle.revolving.proofs.Revolving.{revolving-length, set-at-is-set}
 use Rattle.search.specs.Search.{searched, stretch, isBreaking}
 use Rattle.search.proofs.Keeping.{each-place, each-take, each-drop, keep-same}
-use Rattle.search.proofs.Turns.{set-inside}
+use Rattle.running.proofs.Exchanging.{set-inside}
 use Rattle.verdict_answers.specs.Answers.{notionOf}
 use Rattle.verdict_answers.proofs.Watching.{each-searched}
 use Rattle.opening.proofs.Admitting.{Opens}

@@ -3,7 +3,11 @@
 --     Neighbours    each next set has lost just one wire and gained just one
 --     Climbing      the steps, over lists
 --     Stepping      the same in the terms of the code
+--     Telling       what the request asks, in its own words
+--     Examples      the sets of small orders, one after the other
 pub mod Exchanges
 pub mod Neighbours
 pub mod Climbing
 pub mod Stepping
+pub mod Telling
+pub mod Examples
