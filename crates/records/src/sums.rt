@@ -5,8 +5,8 @@ ghost use mathlib.Core.Bool.{true};
 ghost use mathlib.Core.List.{map};
 ghost use Prim.Native.Nat.{ℕ, _≤_, _<_, _+_, _*_, _^_};
 ghost use Rattle.limits.specs.Limits.{maxShares, maxMasks};
-ghost use Rattle.basics.specs.Folds.{some, upTo};
-ghost use Rattle.wires.specs.Wires.{none, plus, total, SumOfValues, countA, countB, masked, allowed, breaks, dependsA, dependsB};
+ghost use Rattle.basics.specs.Folds.{oneIf, some, upTo};
+ghost use Rattle.wires.specs.Wires.{none, plus, total, SumOfValues, countA, countB, masked, pays, allowed, sumBreaks, breaks, dependsA, dependsB};
 ghost use Rattle.wires.specs.Function.{outers};
 ghost use Rattle.records.specs.Words.{bit};
 ghost use Rattle.records.specs.Layout.{wireAt, wireCount, wires, inside, termsOf, noSum, plusSum};
@@ -187,20 +187,20 @@ pub fn is_masked(sum: Sum) -> bool
     sum.masks != 0
 }
 
-// How many inner wires a set has.
-fn inner_count(table: &[u8], set: &[u16]) -> usize
-    requires { ⌜ inside (now table) (now set) ≡ true ⌝ }
-    ensures { λ r. ⌜ r ≡ allowed Notion.Sni (map (wireAt (now (table .entry))) (now (set .entry))) ⌝ }
+// What a wire pays for shares: one under NI, under SNI one where it is an inner wire.
+pub fn pay(table: &[u8], notion: Notion, wire: usize) -> usize
+    requires { ⌜ wire < wireCount (now table) ⌝ }
+    ensures { λ r. ⌜ (r ≡ oneIf (pays notion (wireAt (now (table .entry)) wire))) × (r ≤ 1) ⌝ }
 {
-    let mut count = 0;
-    let mut i = 0;
-    while i < set.len() {
-        if !is_outer(table, set[i] as usize) {
-            count += 1;
+    match notion {
+        Notion::Ni => 1,
+        Notion::Sni => {
+            if is_outer(table, wire) {
+                return 0;
+            }
+            1
         }
-        i += 1;
     }
-    count
 }
 
 // How many wires of a set pay for a share: all of them under NI, the inner ones under SNI.
@@ -208,26 +208,27 @@ pub fn payers(table: &[u8], notion: Notion, set: &[u16]) -> usize
     requires { ⌜ inside (now table) (now set) ≡ true ⌝ }
     ensures { λ r. ⌜ r ≡ allowed notion (map (wireAt (now (table .entry))) (now (set .entry))) ⌝ }
 {
-    match notion {
-        Notion::Ni => set.len(),
-        Notion::Sni => inner_count(table, set),
+    let mut count = 0;
+    let mut i = 0;
+    while i < set.len() {
+        count += pay(table, notion, set[i] as usize);
+        i += 1;
     }
+    count
 }
 
-// Whether a set of wires whose records add up to a sum breaks a notion. Most sums keep a mask, so the masks come first.
-pub fn sum_breaks(table: &[u8], notion: Notion, set: &[u16], sum: Sum) -> bool
-    requires { ⌜ (inside (now table) (now set) ≡ true) × (termsOf sum ≡ total (map (wireAt (now table)) (now set))) ⌝ }
-    ensures { λ r. ⌜ r ≡ breaks notion maxShares maxMasks (map (wireAt (now (table .entry))) (now (set .entry))) ⌝ }
+// Whether a sum breaks where so many wires pay. Most sums keep a mask, so the masks come first.
+pub fn sum_breaks(sum: Sum, paid: usize) -> bool
+    ensures { λ r. ⌜ r ≡ sumBreaks maxShares maxMasks paid (termsOf sum) ⌝ }
 {
     if is_masked(sum) {
         return false;
     }
-    let allowed = payers(table, notion, set);
     let on = dependence(sum);
-    if allowed < on.of_a {
+    if paid < on.of_a {
         return true;
     }
-    allowed < on.of_b
+    paid < on.of_b
 }
 
 // Whether a set of wires breaks a notion. The set is the caller's: a wire given twice cancels and still pays.
@@ -235,5 +236,5 @@ pub fn set_breaks(table: &[u8], notion: Notion, set: &[u16]) -> bool
     requires { ⌜ inside (now table) (now set) ≡ true ⌝ }
     ensures { λ r. ⌜ r ≡ breaks notion maxShares maxMasks (map (wireAt (now (table .entry))) (now (set .entry))) ⌝ }
 {
-    sum_breaks(table, notion, set, sum_of_set(table, set))
+    sum_breaks(sum_of_set(table, set), payers(table, notion, set))
 }

@@ -1,25 +1,29 @@
 -- One record leaves a sum, one enters.
 --     plus-self            terms that are added twice are gone
---     taken-out            the sum of a set is that of a wire of it and of the others
---     sum-exchanged        the sum of the next set, from that of the set before
+--     taken-out, two-sums  a sum over a set is that of a wire of it and of the others, which are the same in the next set
+--     sum-exchanged, paid-exchanged     the sum of the next set, and how many of its wires pay, from those of the set before
 --     below-inside, set-inside      a set of a table's wires is inside the table
 --     part                          the first wires of a buffer, as the code cuts it
 --     started-inside, started, not-started                  the walk's start
---     next-part, leaves-inside, enters-inside, advanced     its step
-use Prim.Native.Nat.{ℕ, suc, _-_, _≤_, _<_}
+--     next-part, slide-asks, exchange-asks, advanced, less-room     its step
+use Prim.Native.Nat.{ℕ, zero, suc, _+_, _-_, _≤_, _<_}
+use native.Mathlib.Nat.{add-comm, add-assoc}
 use native.Mathlib.Omega.{arith}
 use mathlib.Core.Path.{_≡_, refl, sym, _∙_, ap, ap₂, subst}
 use mathlib.Core.Bool.{Bool, true, false, cond, not, _&&_, _||_, true≢false}
 use mathlib.Core.List.{List, [], _∷_, _++_, map}
 use borrow.Author.Tests.{ne-eqb, eqb-true}
 use lib.Dec.{eqb, ltb}
-use lib.ListN.{length, take, drop}
-use lib.Seq.{take-at, length-take-le}
-use Rattle.basics.specs.Folds.{every}
+use lib.ListN.{length, getD, take, drop, length-map}
+use lib.Seq.{take-at, length-take-le, getD-take}
+use Rattle.limits.specs.Limits.{maxWires, maxSize}
+use Rattle.basics.specs.Folds.{fold, every, oneIf}
+use Rattle.basics.proofs.Folds.{fold-map}
 use Rattle.basics.proofs.Tests.{xor-self, xor-comm, and-right, or-cases}
 use Rattle.counts.specs.Counts.{binom}
-use Rattle.records.specs.Layout.{wireAt, wireCount, inside}
-use Rattle.wires.specs.Wires.{Terms, Wire, none, plus, total, SumOfValues}
+use Rattle.records.specs.Layout.{wireAt, wireCount, inside, termsOf}
+use Rattle.wires.specs.declared.Notion.{Notion}
+use Rattle.wires.specs.Wires.{Terms, Wire, none, plus, total, SumOfValues, pays, allowed}
 use Rattle.wires.proofs.Value.{terms-ext, plus-none, none-plus, plus-assoc, sum-of-values}
 use Rattle.revolving.specs.Order.{setAt, rising, below, isSet}
 use Rattle.revolving.proofs.Rising.{Chosen, isSet-parts}
@@ -27,8 +31,10 @@ use Rattle.revolving.proofs.Revolving.{set-at-is-set}
 use Rattle.walk.specs.Neighbours.{contains, without, Exchanged, HasNext, nextSet}
 use Rattle.walk.proofs.Exchanges.{without-none}
 use Rattle.walk.proofs.Climbing.{chosen, chosen-away, chosen-has}
-use Rattle.walk.proofs.Stepping.{next-is-set}
-use Rattle.running.specs.Kept.{SumKept}
+use Rattle.walk.specs.Places.{room}
+use Rattle.walk.proofs.Stepping.{some-wire, next-is-set}
+use Rattle.running.specs.declared.Tally.{Tally}
+use Rattle.running.specs.Kept.{Kept}
 
 pub plus-self : (t : Terms) → plus t t ≡ none
 plus-self t =
@@ -39,41 +45,65 @@ plus-comm t u =
     terms-ext (plus t u) (plus u t) (λ i j. xor-comm (t .product i j) (u .product i j)) (λ i. xor-comm (t .shareA i) (u .shareA i))
     (λ j. xor-comm (t .shareB j) (u .shareB j)) (λ k. xor-comm (t .mask k) (u .mask k))
 
-module _ (record-of : ℕ → Wire) where
-  abbrev sum : List ℕ → Terms
-  sum s = total (map record-of s)
+-- a wire of a rising list, and the others, in any sum over the wires
+module _ {B : Type 0} (op : B → B → B) (e : B) (comm : (x y : B) → op x y ≡ op y x) (assoc : (x y z : B) → op (op x y) z ≡ op x (op y z)) (f : ℕ → B) where
+  abbrev over : List ℕ → B
+  over s = fold op e f s
 
-  abbrev terms : ℕ → Terms
-  terms x = record-of x .terms
-
-  -- a wire of a rising list, and the others
-  pub taken-out : (lo n x : ℕ) (s : List ℕ) → Chosen lo n s → contains x s ≡ true → sum s ≡ plus (terms x) (sum (without x s))
-  taken-out lo n x [] c e = absurd (true≢false (sym e))
-  taken-out lo n x (y ∷ s) c e = go (eqb x y) refl e (taken-out (suc y) n x s (c .2))
+  taken-out : (lo n x : ℕ) (s : List ℕ) → Chosen lo n s → contains x s ≡ true → over s ≡ op (f x) (over (without x s))
+  taken-out lo n x [] c has = absurd (true≢false (sym has))
+  taken-out lo n x (y ∷ s) c has = go (eqb x y) refl has (taken-out (suc y) n x s (c .2))
     where
-      go : (b : Bool) → eqb x y ≡ b → contains x (y ∷ s) ≡ true → (contains x s ≡ true → sum s ≡ plus (terms x) (sum (without x s)))
-          → plus (terms y) (sum s) ≡ plus (terms x) (sum (cond (not b) (y ∷ without x s) (without x s)))
-      go true p e ih =
+      go : (b : Bool) → eqb x y ≡ b → contains x (y ∷ s) ≡ true → (contains x s ≡ true → over s ≡ op (f x) (over (without x s)))
+          → op (f y) (over s) ≡ op (f x) (over (cond (not b) (y ∷ without x s) (without x s)))
+      go true p has ih =
           let same : x ≡ y = eqb-true x y p in
           let away : contains x s ≡ false = chosen-away (suc y) n x s (omega arith) (c .2) in
-          ap₂ (λ (i : ℕ) (l : List ℕ). plus (terms i) (sum l)) (sym same) (sym (without-none x s away))
-      go false p e ih =
-          let rest : contains x s ≡ true = ap (λ (b : Bool). b || contains x s) (sym p) ∙ e in
-          ap (plus (terms y)) (ih rest)
-          ∙ sym (plus-assoc (terms y) (terms x) (sum (without x s)))
-          ∙ ap (λ (t : Terms). plus t (sum (without x s))) (plus-comm (terms y) (terms x))
-          ∙ plus-assoc (terms x) (terms y) (sum (without x s))
+          ap₂ (λ (i : ℕ) (l : List ℕ). op (f i) (over l)) (sym same) (sym (without-none x s away))
+      go false p has ih =
+          let rest : contains x s ≡ true = ap (λ (b : Bool). b || contains x s) (sym p) ∙ has in
+          ap (op (f y)) (ih rest)
+          ∙ sym (assoc (f y) (f x) (over (without x s)))
+          ∙ ap (λ (t : B). op t (over (without x s))) (comm (f y) (f x))
+          ∙ assoc (f x) (f y) (over (without x s))
 
-  -- what is left without the wire that leaves, and with the one that enters
-  pub sum-exchanged : (n x y : ℕ) (s t : List ℕ) → Chosen 0 n s → Chosen 0 n t → Exchanged s t x y → plus (plus (sum s) (terms x)) (terms y) ≡ sum t
-  sum-exchanged n x y s t c d e =
-      let others = sum (without x s) in
-      ap (λ (u : Terms). plus u (terms y))
-      (plus-comm (sum s) (terms x) ∙ ap (plus (terms x)) (taken-out 0 n x s c (e .was))
-      ∙ sym (plus-assoc (terms x) (terms x) others) ∙ ap (λ (u : Terms). plus u others) (plus-self (terms x)) ∙ none-plus others)
-      ∙ plus-comm others (terms y)
-      ∙ ap (λ (l : List ℕ). plus (terms y) (sum l)) (e .rest)
-      ∙ sym (taken-out 0 n y t d (e .come))
+  -- the others are the same in both sets
+  two-sums : (n x y : ℕ) (s t : List ℕ) → Chosen 0 n s → Chosen 0 n t → Exchanged s t x y → (others : B) × (over s ≡ op (f x) others) × (over t ≡ op (f y) others)
+  two-sums n x y s t c d h = (
+    over (without x s),
+    taken-out 0 n x s c (h .was),
+    taken-out 0 n y t d (h .come) ∙ ap (λ (l : List ℕ). op (f y) (over l)) (sym (h .rest)),
+  )
+
+module _ (table : List ℕ) (n x y : ℕ) (s t : List ℕ) (c : Chosen 0 n s) (d : Chosen 0 n t) (h : Exchanged s t x y) where
+  abbrev terms : ℕ → Terms
+  terms i = wireAt table i .terms
+
+  sum-over : (l : List ℕ) → total (map (wireAt table) l) ≡ fold plus none terms l
+  sum-over = fold-map plus none (wireAt table) (λ w. w .terms)
+
+  sum-exchanged : (u : Terms) → u ≡ total (map (wireAt table) s) → plus (plus u (terms x)) (terms y) ≡ total (map (wireAt table) t)
+  sum-exchanged u is =
+      let both = two-sums plus none plus-comm plus-assoc terms n x y s t c d h in
+      let others = both .0 in
+      ap (λ (v : Terms). plus (plus v (terms x)) (terms y)) (is ∙ sum-over s ∙ both .1 ∙ plus-comm (terms x) others)
+      ∙ ap (λ (v : Terms). plus v (terms y)) (plus-assoc others (terms x) (terms x) ∙ ap (plus others) (plus-self (terms x)) ∙ plus-none others)
+      ∙ plus-comm others (terms y) ∙ sym (both .2) ∙ sym (sum-over t)
+
+  module _ (notion : Notion) where
+    abbrev paying : ℕ → ℕ
+    paying i = oneIf (pays notion (wireAt table i))
+
+    paid-over : (l : List ℕ) → allowed notion (map (wireAt table) l) ≡ fold _+_ 0 paying l
+    paid-over = fold-map _+_ 0 (wireAt table) (λ w. oneIf (pays notion w))
+
+    leaving-paid : paying x ≤ allowed notion (map (wireAt table) s)
+    leaving-paid = let both = two-sums _+_ 0 add-comm add-assoc paying n x y s t c d h in omega (arith, paid-over s, both .1)
+
+    paid-exchanged : (k m : ℕ) → k ≡ allowed notion (map (wireAt table) s) → m + paying x ≡ k + paying y → m ≡ allowed notion (map (wireAt table) t)
+    paid-exchanged k m is moved =
+        let both = two-sums _+_ 0 add-comm add-assoc paying n x y s t c d h in
+        omega (arith, is, moved, paid-over s, paid-over t, both .1, both .2)
 
 -- ---- the walk's start and its step
 
@@ -94,7 +124,7 @@ set-inside table k s e =
 pub part : (size : ℕ) (l : List ℕ) → take (size - 0) l ≡ take size l
 part size l = let same : size - 0 ≡ size = omega arith in ap (λ (i : ℕ). take i l) same
 
-module _ (table : List ℕ) (n size rank sets : ℕ) (held old : List ℕ) (wires : n ≡ wireCount table) (counted : sets ≡ binom n size)
+module _ (notion : Notion) (table : List ℕ) (n size rank sets : ℕ) (held old : List ℕ) (wires : n ≡ wireCount table) (counted : sets ≡ binom n size)
     (more : rank < sets) (unranked : held ≡ setAt n size rank ++ drop size old) where
   is-set : isSet n size (setAt n size rank) ≡ true
   is-set = set-at-is-set n size rank (omega (arith, counted, more))
@@ -107,50 +137,94 @@ module _ (table : List ℕ) (n size rank sets : ℕ) (held old : List ℕ) (wire
       set-inside table size (take (size - 0) held)
       (ap₂ (λ (m : ℕ) (l : List ℕ). isSet m size l) (sym wires) (part size held ∙ started-set) ∙ is-set)
 
-  pub started : (t : Terms) → t ≡ total (map (wireAt table) (take (size - 0) held)) → SumOfValues t (map (wireAt table) (take (size - 0) held))
-      → rank < binom n size → (take size held ≡ setAt n size rank) × SumKept table (take size held) t
-  started t e v less =
-      (started-set, subst (λ (l : List ℕ). SumKept table l t) (part size held) (record { terms = e; values = v }))
+  pub started : (tally : Tally) → termsOf (tally .sum) ≡ total (map (wireAt table) (take (size - 0) held))
+      → SumOfValues (termsOf (tally .sum)) (map (wireAt table) (take (size - 0) held))
+      → tally .paid ≡ allowed notion (map (wireAt table) (take (size - 0) held))
+      → rank < binom n size → (take size held ≡ setAt n size rank) × Kept notion table (take size held) tally
+  started tally e v p less =
+      (started-set, subst (λ (l : List ℕ). Kept notion table l tally) (part size held) (record { terms = e; values = v; payers = p }))
 
 pub not-started : {A : Type 0} (n k rank count : ℕ) → count ≡ binom n k → count ≤ rank → rank < binom n k → A
 not-started n k rank count e h less = let z : ⊥ = omega arith in absurd z
 
-module _ (n : ℕ) (s t : List ℕ) (x y : ℕ) (next : HasNext n s) (moved : t ≡ nextSet n s) (e : Exchanged s t x y) where
-  chosen-next : Chosen 0 n t
-  chosen-next = isSet-parts n (length s) t (ap (isSet n (length s)) moved ∙ next-is-set n s next) .1
-
-  sum-advanced : (table : List ℕ) (kept left now : Terms) → SumKept table s kept → left ≡ plus kept (wireAt table x .terms)
-      → now ≡ plus left (wireAt table y .terms) → SumKept table t now
-  sum-advanced table kept left now sum out in-it =
-      let all : now ≡ total (map (wireAt table) t) =
-      in-it ∙ ap (λ (u : Terms). plus u (wireAt table y .terms)) (out ∙ ap (λ (u : Terms). plus u (wireAt table x .terms)) (sum .terms))
-      ∙ sum-exchanged (wireAt table) n x y s t (chosen n s next) chosen-next e in
-      record { terms = all; values = sum-of-values now (map (wireAt table) t) all }
-
 pub next-part : (n size : ℕ) (probes : List ℕ) → HasNext n (take size probes) → HasNext n (take (size - 0) probes)
 next-part n size probes next = subst (HasNext n) (sym (part size probes)) next
 
--- the part of the buffer that the step took to t
-module _ (n size : ℕ) (probes t : List ℕ) (x y : ℕ) (next : HasNext n (take size probes))
-    (stepped : (t ≡ nextSet n (take (size - 0) probes)) × Exchanged (take (size - 0) probes) t x y) where
-  moved : (t ≡ nextSet n (take size probes)) × Exchanged (take size probes) t x y
-  moved = subst (λ (l : List ℕ). (t ≡ nextSet n l) × Exchanged l t x y) (part size probes) stepped
+take-short : (size : ℕ) (l : List ℕ) → length (take size l) ≤ size
+take-short zero l = omega (arith, ap length (none l))
+  where
+    none : (l : List ℕ) → take 0 l ≡ []
+    none [] = refl
+    none (x ∷ l) = refl
+take-short (suc size) [] = omega arith
+take-short (suc size) (x ∷ l) = omega (arith, take-short size l)
 
-  pub leaves-inside : (m : ℕ) → n ≡ m → x < m
-  leaves-inside m wires = subst (λ (m : ℕ). x < m) wires (chosen-has 0 n x (take size probes) (chosen n (take size probes) next) (moved .1 .was))
+-- the part has the buffer's lowest wire
+pub slide-asks : (n size : ℕ) (probes : List ℕ) (lowest : ℕ) → n ≤ maxWires → HasNext n (take size probes) → lowest ≡ getD probes 0 0
+    → 0 < room n (take size probes)
+    → (n ≤ maxWires) × HasNext n (take (size - 0) probes) × (lowest ≡ getD (take (size - 0) probes) 0 0) × (0 < room n (take (size - 0) probes))
+slide-asks n size probes lowest wires next is more =
+    let some : 0 < size - 0 = omega (arith, some-wire n (take size probes) next, take-short size probes) in (
+      wires,
+      next-part n size probes next,
+      is ∙ sym (getD-take (size - 0) probes 0 0 some),
+      subst (λ (l : List ℕ). 0 < room n l) (sym (part size probes)) more,
+    )
 
-  pub enters-inside : (m : ℕ) → n ≡ m → y < m
-  enters-inside m wires =
-      subst (λ (m : ℕ). y < m) wires (chosen-has 0 n y t (chosen-next n (take size probes) t x y next (moved .0) (moved .1)) (moved .1 .come))
+at-most : (notion : Notion) (l : List Wire) → allowed notion l ≤ length l
+at-most notion [] = omega arith
+at-most notion (w ∷ l) = omega (arith, at-most notion l, one (pays notion w))
+  where
+    one : (b : Bool) → oneIf b ≤ 1
+    one true = omega arith
+    one false = omega arith
 
-  pub advanced : (rest table : List ℕ) (kept left now : Terms) → size ≤ length probes → SumKept table (take size probes) kept
-      → left ≡ plus kept (wireAt table x .terms) → now ≡ plus left (wireAt table y .terms)
-      → (take size (t ++ rest) ≡ nextSet n (take size probes)) × SumKept table (take size (t ++ rest)) now
-  advanced rest table kept left now room sum out in-it =
-      let s = take size probes in
-      let long : length t ≡ size = ap length (moved .0) ∙ isSet-parts n (length s) (nextSet n s) (next-is-set n s next) .0 ∙ length-take-le size probes room in
-      let front : take size (t ++ rest) ≡ t = take-at t rest size long in (
-        front ∙ moved .0,
-        subst (λ (l : List ℕ). SumKept table l now) (sym front)
-            (sum-advanced n s t x y next (moved .0) (moved .1) table kept left now sum out in-it),
-      )
+-- what the step of a part of the buffer came to: the wires x and y left and entered, and t is the set
+module _ (n size : ℕ) (probes t : List ℕ) (x y : ℕ) (next : HasNext n (take size probes)) (moved : t ≡ nextSet n (take (size - 0) probes))
+    (exchange : Exchanged (take (size - 0) probes) t x y) where
+  abbrev s : List ℕ
+  s = take size probes
+
+  moved-to : t ≡ nextSet n s
+  moved-to = subst (λ (l : List ℕ). t ≡ nextSet n l) (part size probes) moved
+
+  exchange-of : Exchanged s t x y
+  exchange-of = subst (λ (l : List ℕ). Exchanged l t x y) (part size probes) exchange
+
+  chosen-next : Chosen 0 n t
+  chosen-next = isSet-parts n (length s) t (ap (isSet n (length s)) moved-to ∙ next-is-set n s next) .1
+
+  front-is : (rest : List ℕ) → size ≤ length probes → take size (t ++ rest) ≡ t
+  front-is rest room =
+      let long : length t ≡ size = ap length moved-to ∙ isSet-parts n (length s) (nextSet n s) (next-is-set n s next) .0 ∙ length-take-le size probes room in
+      take-at t rest size long
+
+  pub less-room : (rest : List ℕ) → size ≤ length probes → room n t + 1 ≡ room n (take (size - 0) probes) → room n (take size (t ++ rest)) + 1 ≡ room n s
+  less-room rest fits e = ap (λ (l : List ℕ). room n l + 1) (front-is rest fits) ∙ e ∙ ap (room n) (part size probes)
+
+  module _ (notion : Notion) (table : List ℕ) (tally : Tally) (wires : n ≡ wireCount table) (small : size ≤ maxSize) (kept : Kept notion table s tally) where
+    -- what an exchange asks
+    pub exchange-asks : (x < wireCount table) × (y < wireCount table) × (oneIf (pays notion (wireAt table x)) ≤ tally .paid) × (tally .paid ≤ maxSize)
+    exchange-asks = (
+      subst (λ (m : ℕ). x < m) wires (chosen-has 0 n x s (chosen n s next) (exchange-of .was)),
+      subst (λ (m : ℕ). y < m) wires (chosen-has 0 n y t chosen-next (exchange-of .come)),
+      omega (arith, kept .payers, leaving-paid table n x y s t (chosen n s next) chosen-next exchange-of notion),
+      omega (arith, kept .payers, few, small, take-short size probes),
+    )
+      where
+        few : allowed notion (map (wireAt table) s) ≤ length s
+        few = omega (arith, at-most notion (map (wireAt table) s), length-map s (wireAt table))
+
+    pub advanced : (rest : List ℕ) (now : Tally) → size ≤ length probes
+        → termsOf (now .sum) ≡ plus (plus (termsOf (tally .sum)) (wireAt table x .terms)) (wireAt table y .terms)
+        → now .paid + oneIf (pays notion (wireAt table x)) ≡ tally .paid + oneIf (pays notion (wireAt table y))
+        → (take size (t ++ rest) ≡ nextSet n s) × Kept notion table (take size (t ++ rest)) now
+    advanced rest now fits sum paid =
+        let front = front-is rest fits in
+        let all = sum ∙ sum-exchanged table n x y s t (chosen n s next) chosen-next exchange-of (termsOf (tally .sum)) (kept .terms) in
+        (front ∙ moved-to, subst (λ (l : List ℕ). Kept notion table l now) (sym front)
+        (record {
+          terms = all;
+          values = sum-of-values (termsOf (now .sum)) (map (wireAt table) t) all;
+          payers = paid-exchanged table n x y s t (chosen n s next) chosen-next exchange-of notion (tally .paid) (now .paid) (kept .payers) paid;
+        }))

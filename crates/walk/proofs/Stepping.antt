@@ -1,7 +1,8 @@
 -- The turns of the step in the code's own terms: the wires of the buffer, by their places.
 --     odd-way, way-next        the direction at the lowest place, and at the next
 --     limit-here, limit-none   what a wire stays below
---     lowest-rises, lowest-falls, lowest-high, lowest-low     the lowest wire moves, or can not
+--     room-odd, room-even, room-read, more-room, below-limit     how far the lowest wire can move
+--     slid-up, slid-down, no-room          it moves, or can not
 --     rises, falls             the wire at a place moves
 --     high, low                it can not
 --     Climbing                 what holds before a turn
@@ -14,12 +15,12 @@ use native.Mathlib.Nat.{not-suc-le-zero}
 use native.Mathlib.Numerals.{add-one}
 use native.Mathlib.Omega.{arith}
 use mathlib.Core.Path.{_≡_, refl, sym, _∙_, ap, ap₂, subst}
-use mathlib.Core.Bool.{Bool, true, false, not, _&&_, true≢false}
+use mathlib.Core.Bool.{Bool, true, false, cond, not, _&&_, true≢false}
 use mathlib.Core.List.{List, [], _∷_, _++_, append-assoc, append-nil}
 use borrow.Author.Tests.{eq-eqb, ne-eqb, eqb-true}
 use lib.Dec.{eqb}
-use lib.ListN.{length, getD, take, drop, set, length-drop, drop-of-length-le}
-use lib.Seq.{split-at, take-suc, drop-cons, take-length}
+use lib.ListN.{length, getD, take, drop, set, length-set, length-drop, drop-of-length-le}
+use lib.Seq.{split-at, take-suc, drop-cons, take-length, getD-set-same, drop-set-lt}
 use Rattle.basics.specs.Folds.{upTo}
 use Rattle.basics.proofs.Folds.{up-to-last, up-to-length}
 use Rattle.counts.specs.Counts.{binom}
@@ -30,7 +31,7 @@ use Rattle.revolving.proofs.Rising.{Chosen, isSet-parts}
 use Rattle.revolving.proofs.Revolving.{rank-unique, set-at-is-set}
 use Rattle.revolving.proofs.Unranking.{wire-inside}
 use Rattle.walk.specs.Neighbours.{Exchanged, HasNext, nextSet}
-use Rattle.walk.specs.Places.{isOdd, head, limit, Blocked}
+use Rattle.walk.specs.Places.{isOdd, head, limit, room, Blocked}
 use Rattle.walk.proofs.Neighbours.{first-set, last-set, before, after, leaving}
 use Rattle.walk.proofs.Climbing.{turns, Stepped, chosen, chosen-after, above-first, head-above, rise-list, fall-list}
 
@@ -69,6 +70,31 @@ limit-none n s i h = sym (ap (head n) (drop-of-length-le s h))
 
 -- ---- the lowest wire
 
+pub room-odd : (n : ℕ) (s : List ℕ) → isOdd (length s) ≡ true → room n s ≡ limit n s 1 - 1 - getD s 0 0
+unfolding room
+room-odd n s e = ap (λ (b : Bool). cond b (limit n s 1 - 1 - getD s 0 0) (getD s 0 0)) e
+
+pub room-even : (n : ℕ) (s : List ℕ) → isOdd (length s) ≡ false → room n s ≡ getD s 0 0
+unfolding room
+room-even n s e = ap (λ (b : Bool). cond b (limit n s 1 - 1 - getD s 0 0) (getD s 0 0)) e
+
+pub room-read : (n : ℕ) (s : List ℕ) (m : ℕ) → isOdd (length s) ≡ true → m ≡ limit n s (0 + 1) → m - 1 - getD s 0 0 ≡ room n s
+room-read n s m e is = ap (λ (k : ℕ). k - 1 - getD s 0 0) is ∙ sym (room-odd n s e)
+
+pub more-room : (n : ℕ) (s : List ℕ) (m : ℕ) → m ≡ room n s → 0 < m → 0 < room n s
+more-room n s m is more = omega arith
+
+-- the lowest wire is below the next
+pub below-limit : (n : ℕ) (s : List ℕ) → 0 < length s → isSet n (length s) s ≡ true → getD s 0 0 < limit n s 1
+below-limit n [] h e = absurd (not-suc-le-zero h)
+below-limit n (x ∷ l) h e =
+    let c = isSet-parts n (length (x ∷ l)) (x ∷ l) e .1 in
+    subst (λ (r : List ℕ). x < head n r) (sym (drop-none l)) (head-above (suc x) n l (c .1) (c .2))
+  where
+    drop-none : (l : List ℕ) → drop 0 l ≡ l
+    drop-none [] = refl
+    drop-none (y ∷ l) = refl
+
 -- a promise of the step on the set that a turn leaves in the buffer
 told : {n : ℕ} {s t u : List ℕ} {x y : ℕ} → u ≡ t → Stepped n s t x y → (u ≡ nextSet n s) × Exchanged s u x y
 told {n = n} {s = s} {x = x} {y = y} e m = (e ∙ m .next, subst (λ (l : List ℕ). Exchanged s l x y) (sym e) (m .exchanged))
@@ -96,37 +122,71 @@ module _ (n : ℕ) (s : List ℕ) (next : HasNext n s) (some : 0 < length s) whe
   has-next : HasNext n (lowest ∷ others)
   has-next = subst (HasNext n) whole next
 
-  pub lowest-rises : isOdd (length s) ≡ true → (m : ℕ) → m ≡ limit n s (0 + 1) → getD s 0 0 + 1 < m
-      → (set s 0 (getD s 0 0 + 1) ≡ nextSet n s) × Exchanged s (set s 0 (getD s 0 0 + 1)) (getD s 0 0) (getD s 0 0 + 1)
+  rises-by-one : isOdd (length s) ≡ true → lowest + 1 < limit n s 1 → Stepped n s (set s 0 (lowest + 1)) lowest (lowest + 1)
   unfolding upTo
-  lowest-rises odd m bound inside =
-      subst (λ (l : List ℕ). (set l 0 (lowest + 1) ≡ nextSet n l) × Exchanged l (set l 0 (lowest + 1)) lowest (lowest + 1)) (sym whole)
-      (subst (λ (y : ℕ). (y ∷ others ≡ nextSet n (lowest ∷ others)) × Exchanged (lowest ∷ others) (y ∷ others) lowest y) (sym (add-one lowest))
-      (told refl (rise-list n 0 lowest others has-next (omega (arith, inside, bound)) (at-top true odd))))
+  rises-by-one odd inside =
+      subst (λ (l : List ℕ). Stepped n l (set l 0 (lowest + 1)) lowest (lowest + 1)) (sym whole)
+      (subst (λ (y : ℕ). Stepped n (lowest ∷ others) (y ∷ others) lowest y) (sym (add-one lowest))
+      (rise-list n 0 lowest others has-next (omega (arith, inside)) (at-top true odd)))
 
-  pub lowest-falls : isOdd (length s) ≡ false → 0 < getD s 0 0
-      → (set s 0 (getD s 0 0 - 1) ≡ nextSet n s) × Exchanged s (set s 0 (getD s 0 0 - 1)) (getD s 0 0) (getD s 0 0 - 1)
+  falls-by-one : isOdd (length s) ≡ false → 0 < lowest → Stepped n s (set s 0 (lowest - 1)) lowest (lowest - 1)
   unfolding upTo
-  lowest-falls even positive =
-      subst (λ (l : List ℕ). (set l 0 (lowest - 1) ≡ nextSet n l) × Exchanged l (set l 0 (lowest - 1)) lowest (lowest - 1)) (sym whole)
-      (subst (λ (y : ℕ). ((lowest - 1) ∷ others ≡ nextSet n (y ∷ others)) × Exchanged (y ∷ others) ((lowest - 1) ∷ others) y (lowest - 1)) (sym one)
-      (told refl (fall-list n 0 (lowest - 1) others (subst (λ (y : ℕ). HasNext n (y ∷ others)) one has-next) (omega arith) (at-top false even))))
+  falls-by-one even positive =
+      subst (λ (l : List ℕ). Stepped n l (set l 0 (lowest - 1)) lowest (lowest - 1)) (sym whole)
+      (subst (λ (y : ℕ). Stepped n (y ∷ others) ((lowest - 1) ∷ others) y (lowest - 1)) (sym one)
+      (fall-list n 0 (lowest - 1) others (subst (λ (y : ℕ). HasNext n (y ∷ others)) one has-next) (omega arith) (at-top false even)))
     where
       one : lowest ≡ suc (lowest - 1)
       one = omega (arith, positive)
 
-  pub lowest-high : isOdd (length s) ≡ true → (m : ℕ) → m ≡ limit n s (0 + 1) → m ≤ getD s 0 0 + 1 → Blocked (isOdd (length s)) n s 0
-  unfolding Blocked upTo
-  lowest-high odd m bound out =
-      let c = chosen n (lowest ∷ others) has-next in
-      let low : suc lowest ≤ limit n s 1 = head-above (suc lowest) n others (c .1) (c .2) in
-      subst (λ (d : Bool). Blocked d n s 0) (sym odd) (lowest, omega (arith, bound, out, low), ap (take 1) whole)
+  -- after a step of the lowest wire the others are as they were
+  module _ (v : ℕ) where
+    lowest-is : v ≡ getD (set s 0 v) 0 0
+    lowest-is = sym (getD-set-same s 0 v 0 some)
 
-  pub lowest-low : isOdd (length s) ≡ false → getD s 0 0 ≤ 0 → Blocked (isOdd (length s)) n s 0
+    limit-is : limit n (set s 0 v) 1 ≡ limit n s 1
+    limit-is = ap (head n) (drop-set-lt 1 s 0 v (omega arith))
+
+    odd-is : isOdd (length (set s 0 v)) ≡ isOdd (length s)
+    odd-is = ap isOdd (length-set s 0 v)
+
+  pub slid-up : isOdd (length s) ≡ true → (x : ℕ) → x ≡ getD s 0 0 → 0 < room n s → (set s 0 (x + 1) ≡ nextSet n s)
+      × (Exchanged s (set s 0 (x + 1)) x (x + 1) × ((x + 1 ≡ getD (set s 0 (x + 1)) 0 0) × (room n (set s 0 (x + 1)) + 1 ≡ room n s)))
+  slid-up odd x same more =
+      let here = room-odd n s odd in
+      let moved = subst (λ (i : ℕ). Stepped n s (set s 0 (i + 1)) i (i + 1)) (sym same) (rises-by-one odd (omega (arith, here, more))) in (
+        moved .next,
+        (moved .exchanged, (lowest-is (x + 1), omega (arith, here, more, same, room-odd n (set s 0 (x + 1)) (odd-is (x + 1) ∙ odd), limit-is (x + 1), lowest-is (x + 1)))),
+      )
+
+  pub slid-down : isOdd (length s) ≡ false → (x : ℕ) → x ≡ getD s 0 0 → 0 < room n s → (set s 0 (x - 1) ≡ nextSet n s)
+      × (Exchanged s (set s 0 (x - 1)) x (x - 1) × ((x - 1 ≡ getD (set s 0 (x - 1)) 0 0) × (room n (set s 0 (x - 1)) + 1 ≡ room n s)))
+  slid-down even x same more =
+      let here = room-even n s even in
+      let moved = subst (λ (i : ℕ). Stepped n s (set s 0 (i - 1)) i (i - 1)) (sym same) (falls-by-one even (omega (arith, here, more))) in (
+        moved .next,
+        (moved .exchanged, (lowest-is (x - 1), omega (arith, here, more, same, room-even n (set s 0 (x - 1)) (odd-is (x - 1) ∙ even), lowest-is (x - 1)))),
+      )
+
+  -- no step of the lowest wire is left
+  pub no-room : (m : ℕ) → m ≡ room n s → m ≤ 0 → Blocked (isOdd (length s)) n s 0
   unfolding Blocked upTo
-  lowest-low even out =
-      let nil : lowest ≡ 0 = omega arith in
-      subst (λ (d : Bool). Blocked d n s 0) (sym even) (ap (take 1) whole ∙ ap {B = List ℕ} (λ y. y ∷ []) nil)
+  no-room m is none = go (isOdd (length s)) refl
+    where
+      high : isOdd (length s) ≡ true → Blocked true n s 0
+      high odd =
+          let c = chosen n (lowest ∷ others) has-next in
+          let above : suc lowest ≤ limit n s 1 = head-above (suc lowest) n others (c .1) (c .2) in
+          (lowest, omega (arith, room-odd n s odd, is, none, above), ap (take 1) whole)
+
+      low : isOdd (length s) ≡ false → Blocked false n s 0
+      low even =
+          let nil : lowest ≡ 0 = omega (arith, room-even n s even, is, none) in
+          ap (take 1) whole ∙ ap {B = List ℕ} (λ y. y ∷ []) nil
+
+      go : (d : Bool) → isOdd (length s) ≡ d → Blocked d n s 0
+      go true e = high e
+      go false e = low e
 
 -- ---- a wire above it
 

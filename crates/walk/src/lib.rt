@@ -1,11 +1,13 @@
 // The walk over the sets of one size in the published order: from a set, in place, to the next one, with the wire that leaves and the wire
 // that enters. It needs no table of counts, and on the average it looks at less than two places of the set. It knows no record and no verdict.
 ghost use mathlib.Core.Path.{_≡_};
+ghost use mathlib.Core.Bool.{true};
 ghost use Prim.Native.Nat.{_+_, _≤_, _<_};
-ghost use lib.ListN.{length, drop};
+ghost use lib.ListN.{length, getD};
 ghost use Rattle.limits.specs.Limits.{maxWires};
+ghost use Rattle.revolving.specs.Order.{isSet};
 ghost use Rattle.walk.specs.Neighbours.{Exchanged, HasNext, nextSet};
-ghost use Rattle.walk.specs.Places.{limit, isOdd, Blocked};
+ghost use Rattle.walk.specs.Places.{limit, isOdd, room, Blocked};
 
 // The wire that left a set and the wire that entered it.
 pub struct Exchange {
@@ -68,28 +70,46 @@ fn climb(wires: usize, set: &mut [u16]) -> Exchange
     }
 }
 
-// Takes a set to the next one of its size. The lowest wire moves by one where it can: up where the size is odd, down where it is even.
+// How many steps in a row move the lowest wire alone, by one each.
+pub fn steps_of_lowest(wires: usize, set: &[u16]) -> usize
+    requires { ⌜ (0 < length (now set)) × (isSet wires (length (now set)) (now set) ≡ true) ⌝ }
+    ensures { λ r. ⌜ r ≡ room wires (now (set .entry)) ⌝ }
+{
+    let lowest = set[0] as usize;
+    if set.len() % 2 == 1 {
+        return limit(wires, set, 0) - 1 - lowest;
+    }
+    lowest
+}
+
+// Takes a set to the next one where its lowest wire, which leaves, can move: up where the size is odd, down where it is even. The answer is
+// the wire that enters, the new lowest.
+pub fn slide(wires: usize, set: &mut [u16], lowest: usize) -> usize
+    requires { ⌜ (wires ≤ maxWires) × HasNext wires (now set) × (lowest ≡ getD (now set) 0 0) × (0 < room wires (now set)) ⌝ }
+    ensures { λ r. ⌜ now (set .exit) ≡ nextSet wires (now (set .entry)) ⌝ }
+    ensures { λ r. ⌜ Exchanged (now (set .entry)) (now (set .exit)) lowest r ⌝ }
+    ensures { λ r. ⌜ (r ≡ getD (now (set .exit)) 0 0) × (room wires (now (set .exit)) + 1 ≡ room wires (now (set .entry))) ⌝ }
+{
+    if set.len() % 2 == 1 {
+        set[0] = (lowest + 1) as u16;
+        return lowest + 1;
+    }
+    set[0] = (lowest - 1) as u16;
+    lowest - 1
+}
+
+// Takes a set to the next one of its size. Most steps move the lowest wire alone.
 pub fn step(wires: usize, set: &mut [u16]) -> Exchange
     requires { ⌜ (wires ≤ maxWires) × HasNext wires (now set) ⌝ }
     ensures { λ r. ⌜ now (set .exit) ≡ nextSet wires (now (set .entry)) ⌝ }
     ensures { λ r. ⌜ Exchanged (now (set .entry)) (now (set .exit)) (r .leaves) (r .enters) ⌝ }
 {
-    let lowest = set[0] as usize;
-    if set.len() % 2 == 1 {
-        if lowest + 1 < limit(wires, set, 0) {
-            set[0] = (lowest + 1) as u16;
-            return Exchange {
-                leaves: lowest,
-                enters: lowest + 1,
-            };
-        }
-        return climb(wires, set);
-    }
-    if 0 < lowest {
-        set[0] = (lowest - 1) as u16;
+    if 0 < steps_of_lowest(wires, set) {
+        let lowest = set[0] as usize;
+        let enters = slide(wires, set, lowest);
         return Exchange {
             leaves: lowest,
-            enters: lowest - 1,
+            enters,
         };
     }
     climb(wires, set)

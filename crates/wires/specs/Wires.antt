@@ -14,6 +14,7 @@
 --     masked                   whether a mask is left in them
 --     pays, allowed            the wires that pay for a share under a notion, and how many of a set do
 --     exceeds                  whether terms depend on more shares of a than are allowed; of b by exchanging the operands
+--     sumBreaks                whether a sum breaks, where so many shares are allowed
 --     breaks                   whether the set breaks the notion
 --     beyond                   whether a bit is set for a share or mask that is none of those given
 use Prim.Native.Nat.{ℕ}
@@ -113,10 +114,13 @@ allowed notion = count (pays notion)
 abbrev pub exceeds : ℕ → ℕ → Terms → Bool
 exceeds n most t = ltb most (countA n t)
 
+-- terms without a mask that depend on more shares of a, or on more shares of b, than are allowed
+abbrev pub sumBreaks : ℕ → ℕ → ℕ → Terms → Bool
+sumBreaks n m most t = not (masked m t) && (exceeds n most t || exceeds n most (swap t))
+
 -- its sum has no mask and depends on more shares of a, or on more shares of b, than wires of the set pay for
 unfoldable pub breaks : Notion → ℕ → ℕ → List Wire → Bool
-breaks notion n m s =
-    not (masked m (total s)) && (exceeds n (allowed notion s) (total s) || exceeds n (allowed notion s) (swap (total s)))
+breaks notion n m s = sumBreaks n m (allowed notion s) (total s)
 
 -- of the records that hold up to limit shares and maskLimit masks: a bit beyond n shares or m masks
 unfoldable pub beyond : ℕ → ℕ → ℕ → ℕ → Terms → Bool

@@ -1,7 +1,7 @@
--- `running::advance` meets its contract: the wires that leave and enter are all that changes in the sum.
+-- `running::advance` meets its contract: the wires that leave and enter are all that changes in the tally.
 -- Assumes nothing.
 use borrow.Author.Needs.{needs}
-use Rattle.running.proofs.Exchanging.{next-part, leaves-inside, enters-inside, advanced}
+use Rattle.running.proofs.Exchanging.{next-part, exchange-asks, advanced}
 use Rattle.running.proofs.advance.Statement.{statement}
 use Rattle.running.proofs.advance.Tie as tie
 
@@ -17,19 +17,21 @@ part-step-end c = search needs
 step-requires : tie.Need-step-requires
 step-requires c κs = (c .before .before .before .pre .0 .1, next-part _ (c .before .before .before .args .size) (c .before .before .before .args .probes .now) (c .before .before .before .pre .1 .0))
 
-with-wire-requires : tie.Need-with-wire-requires
-with-wire-requires c κs = leaves-inside _ (c .before .before .before .before .before .before .args .size) (c .before .before .before .before .before .before .args .probes .now) _ _ _ (c .before .before .before .before .before .before .pre .1 .0) (c .before .before .step .ensures) _ (c .before .before .before .before .before .before .pre .0 .0)
-
-with-wire-requires-2 : tie.Need-with-wire-requires-2
-with-wire-requires-2 c κs = enters-inside _ (c .before .before .before .before .before .before .before .args .size) (c .before .before .before .before .before .before .before .args .probes .now) _ _ _ (c .before .before .before .before .before .before .before .pre .1 .0) (c .before .before .before .step .ensures) _ (c .before .before .before .before .before .before .before .pre .0 .0)
+exchanged-requires : tie.Need-exchanged-requires
+exchanged-requires c κs =
+    let start = c .before .before .before .before .before .before .pre in
+    let moved = c .before .before .step .ensures in
+    exchange-asks _ (c .before .before .before .before .before .before .args .size) (c .before .before .before .before .before .before .args .probes .now) _ _ _ (start .1 .0) (moved .0) (moved .1) (c .before .before .before .before .before .before .args .notion) _ _ (start .0 .0) (start .0 .2) (start .1 .1)
 
 same-length : tie.Need-same-length
 same-length c = search needs
 
 returns : tie.Need-returns
 returns c =
-    let start = c .before .before .before .before .before .before .before .before .pre in
-    advanced _ (c .before .before .before .before .before .before .before .before .args .size) (c .before .before .before .before .before .before .before .before .args .probes .now) _ _ _ (start .1 .0) (c .before .before .before .before .step .ensures) _ _ _ _ _ (start .0 .2) (start .1 .1) (c .before .with-wire .ensures) (c .with-wire2 .ensures)
+    let start = c .before .before .before .before .before .before .before .pre in
+    let moved = c .before .before .before .step .ensures in
+    advanced _ (c .before .before .before .before .before .before .before .args .size) (c .before .before .before .before .before .before .before .args .probes .now) _ _ _ (start .1 .0) (moved .0) (moved .1) (c .before .before .before .before .before .before .before .args .notion) _ _ (start .0 .0) (start .0 .2) (start .1 .1) _ _ (start .0 .3)
+    (c .exchanged .ensures .0) (c .exchanged .ensures .1)
 
 pub advance-spec : {M : Type 1} → statement M
 advance-spec =
@@ -39,7 +41,6 @@ advance-spec =
     part-step-start
     part-step-end
     step-requires
-    with-wire-requires
-    with-wire-requires-2
+    exchanged-requires
     same-length
     returns)

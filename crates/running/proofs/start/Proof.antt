@@ -1,4 +1,4 @@
--- `running::start` meets its contract: what is added up is the set that was written.
+-- `running::start` meets its contract: the tally is made from the set that was written.
 -- Assumes nothing.
 use borrow.Author.Needs.{needs}
 use Rattle.running.proofs.Exchanging.{started-inside, started, not-started}
@@ -27,15 +27,27 @@ part-sum-of-set-end : tie.Need-part-sum-of-set-end
 part-sum-of-set-end c = search needs
 
 sum-of-set-requires : tie.Need-sum-of-set-requires
-sum-of-set-requires c κs = started-inside _ _ _ _ _ _ _ (c .before .before .before .before .before .before .before .before .before .before .pre .1 .0) (c .before .before .before .before .before .before .before .count .ensures) (c .before .before .before .before .before .before .if1 .left) (c .before .before .before .before .unrank .ensures)
+sum-of-set-requires c κs = started-inside (c .before .before .before .before .before .before .before .before .before .before .args .notion) _ _ _ _ _ _ _ (c .before .before .before .before .before .before .before .before .before .before .pre .1 .0) (c .before .before .before .before .before .before .before .count .ensures) (c .before .before .before .before .before .before .if1 .left) (c .before .before .before .before .unrank .ensures)
+
+sub-payers : tie.Need-sub-payers
+sub-payers c = search needs
+
+part-payers-start : tie.Need-part-payers-start
+part-payers-start c = search needs
+
+part-payers-end : tie.Need-part-payers-end
+part-payers-end c = search needs
+
+payers-requires : tie.Need-payers-requires
+payers-requires c κs = started-inside (c .before .before .before .before .before .before .before .before .before .before .before .before .before .args .notion) _ _ _ _ _ _ _ (c .before .before .before .before .before .before .before .before .before .before .before .before .before .pre .1 .0) (c .before .before .before .before .before .before .before .before .before .before .count .ensures) (c .before .before .before .before .before .before .before .before .before .if1 .left) (c .before .before .before .before .before .before .before .unrank .ensures)
 
 same-length : tie.Need-same-length
 same-length c = search needs
 
 returns-2 : tie.Need-returns-2
 returns-2 c =
-    started _ _ _ _ _ _ _ (c .before .before .before .before .before .before .before .before .before .before .before .pre .1 .0) (c .before .before .before .before .before .before .before .before .count .ensures) (c .before .before .before .before .before .before .before .if1 .left) (c .before .before .before .before .before .unrank .ensures) _
-    (c .sum-of-set .ensures .0) (c .sum-of-set .ensures .1)
+    started (c .before .before .before .before .before .before .before .before .before .before .before .before .before .before .args .notion) _ _ _ _ _ _ _ (c .before .before .before .before .before .before .before .before .before .before .before .before .before .before .pre .1 .0) (c .before .before .before .before .before .before .before .before .before .before .before .count .ensures) (c .before .before .before .before .before .before .before .before .before .before .if1 .left) (c .before .before .before .before .before .before .before .before .unrank .ensures) _
+    (c .before .before .before .sum-of-set .ensures .0) (c .before .before .before .sum-of-set .ensures .1) (c .payers .ensures)
 
 pub start-spec : {M : Type 1} → statement M
 start-spec =
@@ -49,5 +61,9 @@ start-spec =
     part-sum-of-set-start
     part-sum-of-set-end
     sum-of-set-requires
+    sub-payers
+    part-payers-start
+    part-payers-end
+    payers-requires
     same-length
     returns-2)

@@ -1,17 +1,22 @@
--- `records::sums::set_breaks` meets its contract: the sum that is tested is that of the set.
+-- `records::sums::set_breaks` meets its contract: what is tested is the sum of the set and how many of its wires pay.
 -- Assumes nothing.
 use borrow.Author.Needs.{needs}
+use Rattle.records.proofs.Breaking.{set-tested}
 use Rattle.records.proofs.sums.set_breaks.Statement.{statement}
 use Rattle.records.proofs.sums.set_breaks.Tie as tie
 
 sum-of-set-requires : tie.Need-sum-of-set-requires
 sum-of-set-requires c κs = search needs
 
+payers-requires : tie.Need-payers-requires
+payers-requires c κs = search needs
+
 sum-breaks-requires : tie.Need-sum-breaks-requires
 sum-breaks-requires c κs = search needs
 
 returns : tie.Need-returns
-returns c = search needs
+returns c = set-tested (c .before .before .before .before .before .args .notion) _ _ _ _ (c .before .before .sum-of-set .ensures .0) (c .before .payers .ensures) (c .sum-breaks .ensures)
 
 pub set-breaks-spec : {M : Type 1} → statement M
-set-breaks-spec = tie.close (tie.spec sum-of-set-requires sum-breaks-requires returns)
+set-breaks-spec =
+    tie.close (tie.spec sum-of-set-requires payers-requires sum-breaks-requires returns)
