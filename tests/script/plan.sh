@@ -197,15 +197,15 @@ sets of size 1                         9
 sets in all                            9
 '
 at_once="$figures
-NI and SNI: up to 18 sets, less than a second at 10000000 sets a second"
+NI and SNI: up to 18 sets, less than a second at 200000000 sets a second"
 try 'a plan' 0 0 "$at_once" '' "$plan" isw-1.txt
 try 'a plan of a text on standard input' 0 0 "$at_once" '' "$plan" < isw-1.txt
 try 'a plan at a rate' 0 0 "$figures
 NI and SNI: up to 18 sets, 3 seconds at 5 sets a second" '' "$plan" isw-1.txt 5
 try 'a plan at the highest rate' 0 0 '*, less than a second at 999999999999999999 sets a second' '' \
     "$plan" isw-1.txt 999999999999999999
-try 'a plan of what takes days' 0 0 '*
-NI and SNI: up to 2248742599782 sets, 2 days at 10000000 sets a second' '' "$plan" figure-8.txt
+try 'a plan of what takes hours' 0 0 '*
+NI and SNI: up to 2248742599782 sets, 3 hours at 200000000 sets a second' '' "$plan" figure-8.txt
 for number in 0 05 1000000000000000000; do
     try "a plan at the rate $number" 2 0 '' 'plan: usage: plan [[]RATE[]] ?*' "$plan" isw-1.txt "$number"
 done

@@ -2,11 +2,13 @@
 --     binom-zero, binom-none, binom-suc     the rule
 --     binom-wider                           more wires have no fewer sets
 --     binom-above                           a size above the wires has count 0
-use Prim.Native.Nat.{ℕ, zero, suc, _+_, _≤_, _<_}
-use native.Mathlib.Nat.{le-refl, le-of-suc-le-suc, eq-or-lt-of-le, not-suc-le-zero}
+--     binom-bound, counts-fit               a count is at most a power, and fits in 64 bits
+use Prim.Native.Nat.{ℕ, zero, suc, _+_, _*_, _^_, _≤_, _<_}
+use native.Mathlib.Nat.{le-refl, le-of-suc-le-suc, eq-or-lt-of-le, not-suc-le-zero, mul-le-mul-right, pow-zero, pow-suc}
 use native.Mathlib.Omega.{arith}
 use mathlib.Core.Path.{_≡_, refl}
 use mathlib.Core.Logic.{_⊎_, inl, inr}
+use Rattle.limits.specs.Limits.{maxWires, maxSize}
 use Rattle.counts.specs.Counts.{binom}
 
 pub binom-zero : (n : ℕ) → binom n 0 ≡ 1
@@ -35,3 +37,30 @@ pub binom-above : (n k : ℕ) → n < k → binom n k ≡ 0
 binom-above n zero h = absurd (not-suc-le-zero h)
 binom-above zero (suc k) h = binom-none k
 binom-above (suc n) (suc k) h = omega (arith, binom-suc n k, binom-above n (suc k) (omega arith), binom-above n k (le-of-suc-le-suc h))
+
+-- each of the k wires is one of `most`
+pub binom-bound : (most n k : ℕ) → n ≤ most → binom n k ≤ most ^ k
+binom-bound most n zero h = omega (arith, binom-zero n, pow-zero most)
+binom-bound most n (suc k) h = up (part (λ n h. binom-bound most n k h) n h)
+  where
+    part : ((n : ℕ) → n ≤ most → binom n k ≤ most ^ k) → (n : ℕ) → n ≤ most → binom n (suc k) ≤ n * most ^ k
+    part ih zero h = omega (arith, binom-none k)
+    part ih (suc n) h = omega (arith, binom-suc n k, part ih n (omega arith), ih n (omega arith))
+
+    up : binom n (suc k) ≤ n * most ^ k → binom n (suc k) ≤ most ^ suc k
+    up b = omega (arith, b, mul-le-mul-right (most ^ k) h, pow-suc most k)
+
+power-up : (a k m : ℕ) → 0 < a → k ≤ m → a ^ k ≤ a ^ m
+power-up a k zero h p = let e : k ≡ 0 = omega arith in rw e (le-refl (a ^ 0))
+power-up a k (suc m) h p = go (eq-or-lt-of-le p) (power-up a k m h)
+  where
+    go : (k ≡ suc m) ⊎ (k < suc m) → (k ≤ m → a ^ k ≤ a ^ m) → a ^ k ≤ a ^ suc m
+    go (inl e) ih = rw e (le-refl (a ^ suc m))
+    go (inr q) ih = omega (arith, ih (le-of-suc-le-suc q), mul-le-mul-right (a ^ m) h, pow-suc a m)
+
+-- every count is below the largest number of 64 bits
+pub counts-fit : (n k : ℕ) → n ≤ maxWires → k ≤ maxSize → binom n k < 18446744073709551615
+counts-fit n k h p =
+    let all : maxWires ^ maxSize < 18446744073709551615 = omega arith in
+    let low : 0 < maxWires = omega arith in
+    omega (arith, all, binom-bound maxWires n k h, power-up maxWires k maxSize low p)

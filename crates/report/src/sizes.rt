@@ -7,7 +7,7 @@ use console::times::sets_of_both;
 use console::times::write_time;
 
 // From so many sets on a check is long: some seconds.
-const LONG: u64 = 50_000_000;
+const LONG: u64 = 1_000_000_000;
 
 // The sets of both notions that a check of the text looks at.
 pub fn sets_to_look_at(text: &[u8]) -> u64 {

@@ -5,7 +5,7 @@
 --     below-inside, set-inside      a set of a table's wires is inside the table
 --     part                          the first wires of a buffer, as the code cuts it
 --     started-inside, started, not-started                  the walk's start
---     next-part, slide-asks, exchange-asks, advanced, less-room     its step
+--     next-part, slide-asks, exchange-asks, advanced, new-lowest, less-room     its step
 use Prim.Native.Nat.{ℕ, zero, suc, _+_, _-_, _≤_, _<_}
 use native.Mathlib.Nat.{add-comm, add-assoc}
 use native.Mathlib.Omega.{arith}
@@ -14,7 +14,7 @@ use mathlib.Core.Bool.{Bool, true, false, cond, not, _&&_, _||_, true≢false}
 use mathlib.Core.List.{List, [], _∷_, _++_, map}
 use borrow.Author.Tests.{ne-eqb, eqb-true}
 use lib.Dec.{eqb, ltb}
-use lib.ListN.{length, getD, take, drop, length-map}
+use lib.ListN.{length, getD, take, drop, length-map, List·getD-append}
 use lib.Seq.{take-at, length-take-le, getD-take}
 use Rattle.limits.specs.Limits.{maxWires, maxSize}
 use Rattle.basics.specs.Folds.{fold, every, oneIf}
@@ -199,6 +199,13 @@ module _ (n size : ℕ) (probes t : List ℕ) (x y : ℕ) (next : HasNext n (tak
       let long : length t ≡ size = ap length moved-to ∙ isSet-parts n (length s) (nextSet n s) (next-is-set n s next) .0 ∙ length-take-le size probes room in
       take-at t rest size long
 
+  pub new-lowest : (rest : List ℕ) → y ≡ getD t 0 0 → y ≡ getD (t ++ rest) 0 0
+  new-lowest rest e = e ∙ sym (List·getD-append t rest 0 0 (some-in t y (exchange-of .come)))
+    where
+      some-in : (l : List ℕ) (z : ℕ) → contains z l ≡ true → 0 < length l
+      some-in [] z has = absurd (true≢false (sym has))
+      some-in (w ∷ l) z has = omega arith
+
   pub less-room : (rest : List ℕ) → size ≤ length probes → room n t + 1 ≡ room n (take (size - 0) probes) → room n (take size (t ++ rest)) + 1 ≡ room n s
   less-room rest fits e = ap (λ (l : List ℕ). room n l + 1) (front-is rest fits) ∙ e ∙ ap (room n) (part size probes)
 
@@ -221,10 +228,12 @@ module _ (n size : ℕ) (probes t : List ℕ) (x y : ℕ) (next : HasNext n (tak
         → (take size (t ++ rest) ≡ nextSet n s) × Kept notion table (take size (t ++ rest)) now
     advanced rest now fits sum paid =
         let front = front-is rest fits in
-        let all = sum ∙ sum-exchanged table n x y s t (chosen n s next) chosen-next exchange-of (termsOf (tally .sum)) (kept .terms) in
-        (front ∙ moved-to, subst (λ (l : List ℕ). Kept notion table l now) (sym front)
-        (record {
-          terms = all;
-          values = sum-of-values (termsOf (now .sum)) (map (wireAt table) t) all;
-          payers = paid-exchanged table n x y s t (chosen n s next) chosen-next exchange-of notion (tally .paid) (now .paid) (kept .payers) paid;
-        }))
+        let all = sum ∙ sum-exchanged table n x y s t (chosen n s next) chosen-next exchange-of (termsOf (tally .sum)) (kept .terms) in (
+          front ∙ moved-to,
+          subst (λ (l : List ℕ). Kept notion table l now) (sym front)
+              (record {
+                terms = all;
+                values = sum-of-values (termsOf (now .sum)) (map (wireAt table) t) all;
+                payers = paid-exchanged table n x y s t (chosen n s next) chosen-next exchange-of notion (tally .paid) (now .paid) (kept .payers) paid;
+              }),
+        )

@@ -28,6 +28,12 @@ pub struct Tally {
     pub paid: usize,
 }
 
+// The lowest wire that a set has after a slide, and the set's tally.
+pub struct Slid {
+    pub lowest: usize,
+    pub tally: Tally,
+}
+
 // Writes the set at a rank to the start of `probes`, and makes its tally. Where there is no such rank, nothing is written.
 pub fn start(
     table: &[u8],
@@ -95,14 +101,17 @@ pub fn slide(
     probes: &mut [u16],
     lowest: usize,
     tally: Tally,
-) -> Tally
+) -> Slid
     requires { ⌜ (wires ≡ wireCount (now table)) × (wires ≤ maxWires) × (size ≤ maxSize) × (size ≤ length (now probes)) ⌝ }
     requires { ⌜ HasNext wires (take size (now probes)) × Kept notion (now table) (take size (now probes)) tally ⌝ }
     requires { ⌜ (lowest ≡ getD (now probes) 0 0) × (0 < room wires (take size (now probes))) ⌝ }
     ensures { λ r. ⌜ take size (now (probes .exit)) ≡ nextSet wires (take size (now (probes .entry))) ⌝ }
-    ensures { λ r. ⌜ Kept notion (now (table .entry)) (take size (now (probes .exit))) r ⌝ }
-    ensures { λ r. ⌜ room wires (take size (now (probes .exit))) + 1 ≡ room wires (take size (now (probes .entry))) ⌝ }
+    ensures { λ r. ⌜ Kept notion (now (table .entry)) (take size (now (probes .exit))) (r .tally) ⌝ }
+    ensures { λ r. ⌜ (r .lowest ≡ getD (now (probes .exit)) 0 0) × (room wires (take size (now (probes .exit))) + 1 ≡ room wires (take size (now (probes .entry)))) ⌝ }
 {
     let enters = walk::slide(wires, &mut probes[0..size], lowest);
-    exchanged(tally, table, notion, lowest, enters)
+    Slid {
+        lowest: enters,
+        tally: exchanged(tally, table, notion, lowest, enters),
+    }
 }

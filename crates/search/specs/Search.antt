@@ -5,17 +5,21 @@
 --     breakingSets               those of a list of sets that break it, in their order
 --     first                      the first set of a list, or the empty one
 --     FirstSet                   a buffer begins with the first set of a list that passes a test, and its size is given, or 0 where none does
+--     FirstAt, FirstFound        what is found first among the sets of some sizes, at ranks of a range of each; no size and the range's end where
+--                                nothing is found
 --     FirstRank                  a rank is the first in a range whose set passes a test, and a buffer begins with that set, or it is the range's end
 use Prim.Native.Nat.{ℕ, zero, suc, _-_, _≤_, _<_}
 use mathlib.Core.Path.{_≡_}
-use mathlib.Core.Bool.{Bool, true}
+use mathlib.Core.Bool.{Bool, true, false}
 use mathlib.Core.List.{List, [], _∷_, _++_, map}
 use lib.ListN.{length, take, drop}
 use Rattle.basics.specs.Folds.{keep}
 use Rattle.wires.specs.declared.Notion.{Notion}
 use Rattle.wires.specs.Wires.{breaks}
 use Rattle.records.specs.Layout.{wireAt}
+use Rattle.counts.specs.Counts.{binom}
 use Rattle.revolving.specs.Order.{revolving, setAt}
+use Rattle.search.specs.declared.Found.{Found}
 
 unfoldable pub searched : ℕ → ℕ → List (List ℕ)
 searched n zero = []
@@ -43,3 +47,21 @@ pub record FirstRank (test : List ℕ → Bool) (n k from to rank : ℕ) (held :
   pub high : rank ≤ to
   pub clean : keep test (stretch n k from rank) ≡ []
   pub found : rank < to → (test (setAt n k rank) ≡ true) × (take k held ≡ setAt n k rank)
+
+-- the set at this size and rank passes a test, a buffer begins with it, and no set before it does: of the sizes from `low` on, and of each size of
+-- the ranks from `from` up to, without, `to`
+pub record FirstAt (test : List ℕ → Bool) (n low high from to size rank : ℕ) (held : List ℕ) : Type 0 where
+  pub size-low : low ≤ size
+  pub size-high : size ≤ high
+  pub rank-low : from ≤ rank
+  pub rank-in : rank < binom n size
+  pub passes : test (setAt n size rank) ≡ true
+  pub shown : take size held ≡ setAt n size rank
+  pub smaller : (k r : ℕ) → low ≤ k → k < size → from ≤ r → r < to → r < binom n k → test (setAt n k r) ≡ false
+  pub earlier : (r : ℕ) → from ≤ r → r < rank → test (setAt n size r) ≡ false
+
+pub record FirstFound (test : List ℕ → Bool) (n low high from to : ℕ) (found : Found) (held : List ℕ) : Type 0 where
+  pub most : found .rank ≤ to
+  pub some : found .rank < to → FirstAt test n low high from to (found .size) (found .rank) held
+  pub none : to ≤ found .rank → (found .size ≡ 0)
+      × ((k r : ℕ) → low ≤ k → k ≤ high → from ≤ r → r < to → r < binom n k → test (setAt n k r) ≡ false)

@@ -1,45 +1,138 @@
-// The search behind verdict and range check: nested loops over size and rank, left by label with the breaking set. The first set of a size,
-// or of a range, is worked out from its rank; from there on the walk keeps set and sum. These functions ask what the entries have tested.
+// The search behind verdict and range check: nested loops over size and rank, left by label with the breaking set. The first set of a size is worked
+// out from its rank; from there on the walk keeps set and tally. These functions ask what the entries have tested.
 ghost use mathlib.Core.Path.{_≡_};
-ghost use Prim.Native.Nat.{_≤_};
+ghost use mathlib.Core.Bool.{false};
+ghost use Prim.Native.Nat.{ℕ, _≤_, _<_};
 ghost use lib.ListN.{length};
-ghost use Rattle.limits.specs.Limits.{maxShares, maxMasks, maxTableBytes, maxSize};
+ghost use Rattle.limits.specs.Limits.{maxShares, maxMasks, maxWires, maxTableBytes, maxSize};
 ghost use Rattle.counts.specs.Counts.{binom, Counts};
+ghost use Rattle.revolving.specs.Order.{setAt};
 ghost use Rattle.records.specs.Layout.{wireCount};
-ghost use Rattle.search.specs.Search.{searched, isBreaking, FirstSet, FirstRank};
+ghost use Rattle.running.specs.Kept.{Stands};
+ghost use Rattle.search.specs.Search.{searched, isBreaking, FirstSet, FirstRank, FirstFound};
 use counts::count;
 use limits::COUNTS;
 use limits::RECORD_BYTES;
 use records::sums::sum_breaks;
+use running::Tally;
 use running::advance;
+use running::slide;
 use running::start;
 use wires::Notion;
 
-// The size of the first breaking set in rising size and rank, with the set at the start of `probes`, or 0.
-pub fn first_breaking(table: &[u8], notion: Notion, order: usize, probes: &mut [u16]) -> usize
-    requires { ⌜ (length (now table) ≤ maxTableBytes) × (order ≤ maxSize) × (order ≤ length (now probes)) ⌝ }
-    ensures { λ r. ⌜ FirstSet (isBreaking notion (now (table .entry)) maxShares maxMasks) (searched (wireCount (now (table .entry))) order) r (now (probes .exit)) ⌝ }
+// Where a walk stands.
+struct Stand {
+    rank: u64,
+    tally: Tally,
+}
+
+// A breaking set by its size and rank; no size and the range's end where there is none.
+pub struct Found {
+    pub size: usize,
+    pub rank: u64,
+}
+
+fn least(a: u64, b: u64) -> u64
+    ensures { λ r. ⌜ (r ≤ a) × (r ≤ b) × ((i : ℕ) → i < a → i < b → i < r) ⌝ }
 {
-    let counts = counts::table();
+    if a < b {
+        return a;
+    }
+    b
+}
+
+// Passes over sets that do not break, as long as the lowest wire alone moves, and no further than to the last rank. This is where a search spends
+// its time: what changes from set to set is at hand.
+fn pass_over(
+    table: &[u8],
+    notion: Notion,
+    wires: usize,
+    size: usize,
+    from: u64,
+    to: u64,
+    probes: &mut [u16],
+    first: Tally,
+) -> Stand
+    requires { ⌜ (wires ≡ wireCount (now table)) × (wires ≤ maxWires) × (size ≤ maxSize) × (size ≤ length (now probes)) × (from < to) × (to ≤ binom wires size) ⌝ }
+    requires { ⌜ Stands notion (now table) wires size from (now probes) first ⌝ }
+    ensures { λ r. ⌜ (from ≤ r .rank) × (r .rank < to) ⌝ }
+    ensures { λ r. ⌜ Stands notion (now (table .entry)) wires size (r .rank) (now (probes .exit)) (r .tally) ⌝ }
+    ensures { λ r. ⌜ ((i : ℕ) → from ≤ i → i < r .rank → isBreaking notion (now (table .entry)) maxShares maxMasks (setAt wires size i) ≡ false) ⌝ }
+{
+    let mut rank = from;
+    let mut tally = first;
+    if size == 0 {
+        return Stand { rank, tally };
+    }
+    let mut lowest = probes[0] as usize;
+    let last = from
+        + least(
+            walk::steps_of_lowest(wires, &probes[0..size]) as u64,
+            to - 1 - from,
+        );
+    while rank < last {
+        if sum_breaks(tally.sum, tally.paid) {
+            return Stand { rank, tally };
+        }
+        let slid = slide(table, notion, wires, size, probes, lowest, tally);
+        lowest = slid.lowest;
+        tally = slid.tally;
+        rank += 1;
+    }
+    Stand { rank, tally }
+}
+
+// The first breaking set in rising size and rank, at the start of `probes`: of the sizes from `low` to `high`, and of each size of the ranks from
+// `from` up to, without, `to`.
+pub fn first_breaking(
+    table: &[u8],
+    counts: &[u64; COUNTS],
+    notion: Notion,
+    low: usize,
+    high: usize,
+    from: u64,
+    to: u64,
+    probes: &mut [u16],
+) -> Found
+    requires { ⌜ Counts (now counts) ⌝ }
+    requires { ⌜ (length (now table) ≤ maxTableBytes) × (high ≤ maxSize) × (high ≤ length (now probes)) ⌝ }
+    ensures { λ r. ⌜ FirstFound (isBreaking notion (now (table .entry)) maxShares maxMasks) (wireCount (now (table .entry))) low high from to r (now (probes .exit)) ⌝ }
+{
     let wires = table.len() / RECORD_BYTES;
-    let mut found = 0;
-    'search: for size in 1..=order {
-        let sets = count(&counts, wires, size);
-        let mut sum = start(table, &counts, wires, size, 0, probes);
-        for rank in 0..sets {
-            if sum_breaks(table, notion, &probes[0..size], sum) {
-                found = size;
+    let mut found = Found { size: 0, rank: to };
+    'search: for size in low..=high {
+        let end = least(count(counts, wires, size), to);
+        let mut tally = start(table, counts, notion, wires, size, from, probes);
+        let mut rank = from;
+        while rank < end {
+            let stand = pass_over(table, notion, wires, size, rank, end, probes, tally);
+            if sum_breaks(stand.tally.sum, stand.tally.paid) {
+                found = Found {
+                    size,
+                    rank: stand.rank,
+                };
                 break 'search;
             }
-            if rank + 1 < sets {
-                sum = advance(table, wires, size, probes, sum);
+            rank = stand.rank + 1;
+            if rank < end {
+                tally = advance(table, notion, wires, size, probes, stand.tally);
             }
         }
     }
     found
 }
 
-// The first breaking rank from `from` on, with its set at the start of `probes`; `to` where none up to there breaks.
+// The size of the first breaking set of up to `order` wires, with the set at the start of `probes`, or 0.
+pub fn first_set(table: &[u8], notion: Notion, order: usize, probes: &mut [u16]) -> usize
+    requires { ⌜ (length (now table) ≤ maxTableBytes) × (order ≤ maxSize) × (order ≤ length (now probes)) ⌝ }
+    ensures { λ r. ⌜ FirstSet (isBreaking notion (now (table .entry)) maxShares maxMasks) (searched (wireCount (now (table .entry))) order) r (now (probes .exit)) ⌝ }
+{
+    let counts = counts::table();
+    let found = first_breaking(table, &counts, notion, 1, order, 0, u64::MAX, probes);
+    found.size
+}
+
+// The first breaking rank of one size from `from` on, with its set at the start of `probes`; `to` where none up to there breaks.
 pub fn first_rank(
     table: &[u8],
     counts: &[u64; COUNTS],
@@ -53,17 +146,6 @@ pub fn first_rank(
     requires { ⌜ (length (now table) ≤ maxTableBytes) × (size ≤ maxSize) × (size ≤ length (now probes)) × (from ≤ to) × (to ≤ binom (wireCount (now table)) size) ⌝ }
     ensures { λ r. ⌜ FirstRank (isBreaking notion (now (table .entry)) maxShares maxMasks) (wireCount (now (table .entry))) size from to r (now (probes .exit)) ⌝ }
 {
-    let wires = table.len() / RECORD_BYTES;
-    let mut rank = from;
-    let mut sum = start(table, counts, wires, size, from, probes);
-    while rank < to {
-        if sum_breaks(table, notion, &probes[0..size], sum) {
-            return rank;
-        }
-        rank += 1;
-        if rank < to {
-            sum = advance(table, wires, size, probes, sum);
-        }
-    }
-    rank
+    let found = first_breaking(table, counts, notion, size, size, from, to, probes);
+    found.rank
 }

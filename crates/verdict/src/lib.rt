@@ -45,7 +45,7 @@ pub fn verdict(
                 return VerdictAnswer::Refused(Refusal::BufferTooShort);
             }
             let mut probes = [0u16; MAX_SIZE];
-            let size = search::first_breaking(table, kind, order, &mut probes);
+            let size = search::first_set(table, kind, order, &mut probes);
             if size == 0 {
                 return VerdictAnswer::Holds;
             }

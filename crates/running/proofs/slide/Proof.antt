@@ -1,7 +1,7 @@
 -- `running::slide` meets its contract: the lowest wire leaves, and the one beside it enters.
 -- Assumes nothing.
 use borrow.Author.Needs.{needs}
-use Rattle.running.proofs.Exchanging.{slide-asks, exchange-asks, advanced, less-room}
+use Rattle.running.proofs.Exchanging.{slide-asks, exchange-asks, advanced, new-lowest, less-room}
 use Rattle.running.proofs.slide.Statement.{statement}
 use Rattle.running.proofs.slide.Tie as tie
 
@@ -35,7 +35,7 @@ returns c =
     let went =
     advanced _ (c .before .before .before .before .before .before .before .args .size) (c .before .before .before .before .before .before .before .args .probes .now) _ _ _ (start .1 .0 .0) (moved .0) (moved .1 .0) (c .before .before .before .before .before .before .before .args .notion) _ _ (start .0 .0) (start .0 .2) (start .1 .0 .1) _ _ (start .0 .3)
     (c .exchanged .ensures .0) (c .exchanged .ensures .1) in
-    (went .0, (went .1, less-room _ (c .before .before .before .before .before .before .before .args .size) (c .before .before .before .before .before .before .before .args .probes .now) _ _ _ (start .1 .0 .0) (moved .0) (moved .1 .0) _ (start .0 .3) (moved .1 .1 .1)))
+    (went .0, (went .1, (new-lowest _ (c .before .before .before .before .before .before .before .args .size) (c .before .before .before .before .before .before .before .args .probes .now) _ _ _ (start .1 .0 .0) (moved .0) (moved .1 .0) _ (moved .1 .1 .0), less-room _ (c .before .before .before .before .before .before .before .args .size) (c .before .before .before .before .before .before .before .args .probes .now) _ _ _ (start .1 .0 .0) (moved .0) (moved .1 .0) _ (start .0 .3) (moved .1 .1 .1))))
 
 pub slide-spec : {M : Type 1} → statement M
 slide-spec =

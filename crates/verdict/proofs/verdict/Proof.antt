@@ -65,11 +65,11 @@ returns-3 c =
     promised (no-room (a .table .now) (a .shares) (a .masks) (a .notion) (a .order) (a .set .now) (kind o) (told o) (c .before .before .if1 .left)
     (c .before .if2 .left) (c .if3 .taken))
 
-slice-aggregate-first-breaking : tie.Need-slice-aggregate-first-breaking
-slice-aggregate-first-breaking c = search needs
+slice-aggregate-first-set : tie.Need-slice-aggregate-first-set
+slice-aggregate-first-set c = search needs
 
-first-breaking-requires : tie.Need-first-breaking-requires
-first-breaking-requires c κs =
+first-set-requires : tie.Need-first-set-requires
+first-set-requires c κs =
     let p = passed (c .before) in
     let most = bytes _ _ _ _ _ _ _ p in
     let few = order-small _ _ _ _ _ _ _ p in
@@ -77,7 +77,7 @@ first-breaking-requires c κs =
 
 returns-4 : tie.Need-returns-4
 returns-4 c =
-    promised (found-none _ _ _ _ _ _ _ (passed (c .before .before .before .before)) _ _ (c .before .before .first-breaking .ensures) (c .if4 .taken))
+    promised (found-none _ _ _ _ _ _ _ (passed (c .before .before .before .before)) _ _ (c .before .before .first-set .ensures) (c .if4 .taken))
 
 sub-write : tie.Need-sub-write
 sub-write c = search needs
@@ -88,14 +88,14 @@ part-write-start c = search needs
 part-write-end : tie.Need-part-write-end
 part-write-end c =
     let p = passed (c .before .before .before .before .before) in
-    let most = size-within _ _ _ _ _ _ _ p _ _ (c .before .before .before .first-breaking .ensures) in
+    let most = size-within _ _ _ _ _ _ _ p _ _ (c .before .before .before .first-set .ensures) in
     let few = order-small _ _ _ _ _ _ _ p in
     search needs
 
 write-requires : tie.Need-write-requires
 write-requires c κs =
     let p = passed (c .before .before .before .before .before .before .before) in
-    let most = size-within _ _ _ _ _ _ _ p _ _ (c .before .before .before .before .before .first-breaking .ensures) in
+    let most = size-within _ _ _ _ _ _ _ p _ _ (c .before .before .before .before .before .first-set .ensures) in
     let few = order-small _ _ _ _ _ _ _ p in
     search needs
 
@@ -112,7 +112,7 @@ returns-6 : tie.Need-returns-6
 returns-6 c =
     let q = c .before .before .before .before .before .before in
     promised
-    (found-set _ _ _ _ _ _ _ (passed (q .before .before .before .before)) _ _ (q .before .before .first-breaking .ensures) (q .if4 .left) _
+    (found-set _ _ _ _ _ _ _ (passed (q .before .before .before .before)) _ _ (q .before .before .first-set .ensures) (q .if4 .left) _
     (c .before .before .write .ensures))
 
 pub verdict-spec : {M : Type 1} → statement M
@@ -125,8 +125,8 @@ verdict-spec =
     returns
     returns-2
     returns-3
-    slice-aggregate-first-breaking
-    first-breaking-requires
+    slice-aggregate-first-set
+    first-set-requires
     returns-4
     sub-write
     part-write-start

@@ -11,7 +11,7 @@ use super::sets::count;
 use super::symbols::names;
 use super::trees::{Cause, Fault};
 
-pub const SETS_IN_A_SECOND: u64 = 10_000_000;
+pub const SETS_IN_A_SECOND: u64 = 200_000_000;
 const REPLACED: &str = "? stands for a byte that is no printing ASCII character: a tab is no space here, and byte 13 \
     (carriage return) no line end";
 
@@ -72,7 +72,7 @@ pub const RIGHT: Way = Way {
     own: own_sum,
     difference: Record::plus,
     sets,
-    long_from: 50_000_000,
+    long_from: 1_000_000_000,
     time,
     line,
     byte,

@@ -9,7 +9,7 @@ pub const USAGE: &str = "plan: usage: plan [RATE]    (RATE: sets a second, a num
     without leading zeros; the text comes from standard input)\n";
 
 /// Sets a second, where no rate is given.
-pub const USUAL_RATE: u64 = 10_000_000;
+pub const USUAL_RATE: u64 = 200_000_000;
 
 /// Digits that are more than these are no rate.
 pub const MOST_DIGITS: usize = 18;

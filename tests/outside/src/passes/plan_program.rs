@@ -79,7 +79,7 @@ sets of size 1                        33
 sets of size 2                       528
 sets in all                          561
 
-NI and SNI: up to 1122 sets, less than a second at 10000000 sets a second
+NI and SNI: up to 1122 sets, less than a second at 200000000 sets a second
 ";
 const REFUSAL: &str = "\
 plan: refused 7 at 34
