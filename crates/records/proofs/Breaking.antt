@@ -33,15 +33,15 @@ module _ (t : Terms) (paid : ℕ) (left : Bool) (tested : left ≡ masked maxMas
   pub still-masked : left ≡ true → false ≡ sumBreaks maxShares maxMasks paid t
   still-masked d = sym (tests ∙ ap (λ (z : Bool). not z && either) d)
 
-  module _ (x y : ℕ) (none : left ≡ false) (ex : x ≡ countA maxShares t) (ey : y ≡ countB maxShares t) where
-    counts : sumBreaks maxShares maxMasks paid t ≡ (ltb paid x || ltb paid y)
-    counts = tests ∙ ap (λ (z : Bool). not z && either) none ∙ ap₂ (λ (i j : ℕ). ltb paid i || ltb paid j) (sym ex) (sym ey)
+  module _ (none : left ≡ false) (x : ℕ) (ex : x ≡ countA maxShares t) where
+    counts : sumBreaks maxShares maxMasks paid t ≡ (ltb paid x || ltb paid (countB maxShares t))
+    counts = tests ∙ ap (λ (z : Bool). not z && either) none ∙ ap (λ (i : ℕ). ltb paid i || ltb paid (countB maxShares t)) (sym ex)
 
     pub more-of-a : paid < x → true ≡ sumBreaks maxShares maxMasks paid t
-    more-of-a l = sym (counts ∙ ap (λ (z : Bool). z || ltb paid y) (lt-ltb paid x l))
+    more-of-a l = sym (counts ∙ ap (λ (z : Bool). z || ltb paid (countB maxShares t)) (lt-ltb paid x l))
 
-    pub then-of-b : x ≤ paid → ltb paid y ≡ sumBreaks maxShares maxMasks paid t
-    then-of-b l = sym (counts ∙ ap (λ (z : Bool). z || ltb paid y) (le-ltb paid x l))
+    pub then-of-b : (y : ℕ) → y ≡ countB maxShares t → x ≤ paid → ltb paid y ≡ sumBreaks maxShares maxMasks paid t
+    then-of-b y ey l = ap (ltb paid) ey ∙ sym (counts ∙ ap (λ (z : Bool). z || ltb paid (countB maxShares t)) (le-ltb paid x l))
 
 -- the sum of a set, and how many of its wires pay
 pub set-tested : (notion : Notion) (s : List Wire) (t : Terms) (paid : ℕ) (r : Bool) → t ≡ total s → paid ≡ allowed notion s

@@ -4,21 +4,24 @@
 --     rows-bits, columns-bits        the rows and the columns that have a product
 --     within-row, row-products, column-products     the products of a record, by row and by column
 --     seen-bits, seen-ones           the shares on which a sum depends, and their number
+--     ones-hold, ones-read, seen-count     the same by a table of ones
 use Prim.Native.Nat.{ℕ, _+_, _*_, _/_, _%_, _^_, _<_}
 use native.Mathlib.Nat.{mul-add, mul-comm}
 use native.Mathlib.Omega.{arith}
 use mathlib.Core.Path.{_≡_, refl, sym, _∙_, ap, ap₂}
 use mathlib.Core.Bool.{Bool, true, false, cond, not, _&&_, _||_, xor, or-assoc, or-false}
-use borrow.Author.Tests.{lt-ltb, not-true}
+use mathlib.Core.List.{List}
+use borrow.Author.Tests.{lt-ltb, not-true, eqb-true}
 use lib.Bits.{bitAnd, bitOr}
 use lib.Count.{ones}
 use lib.Dec.{eqb, ltb}
+use lib.ListN.{getD}
 use Rattle.limits.specs.Limits.{maxShares}
 use Rattle.basics.specs.Folds.{some, every, oneIf, upTo}
 use Rattle.basics.proofs.Tests.{xor-same, and-cond}
 use Rattle.basics.proofs.Folds.{fold-cong, fold-below, fold-pick, fold-split, every-at}
 use Rattle.wires.specs.Wires.{Terms, dependsA, countA}
-use Rattle.records.specs.Words.{bit}
+use Rattle.records.specs.Words.{bit, Ones}
 use Rattle.records.specs.Layout.{decodeTerms}
 use Rattle.records.proofs.Words.{bit-or, bit-and, bit-low, or-fold, ones-count}
 
@@ -91,3 +94,21 @@ seen-bits t w v b i ew ev eb = bit-or w v i ∙ ap₂ (λ (x y : Bool). x || y) 
 pub seen-ones : (t : Terms) (w : ℕ) → w < 2 ^ maxShares → ((i : ℕ) → i < maxShares → bit w i ≡ dependsA maxShares t i) → ones w ≡ countA maxShares t
 unfolding countA
 seen-ones t w h e = ones-count maxShares w h ∙ fold-below _+_ 0 maxShares (λ i. oneIf (bit w i)) (λ i. oneIf (dependsA maxShares t i)) (λ i l. ap oneIf (e i l))
+
+-- ---- the table of ones
+
+-- each place holds how many ones its number has, by a test over the whole table that antt computes
+abbrev pub holdsOnes : List ℕ → Bool
+holdsOnes table = every (λ w. eqb (getD table w 0) (ones w)) (upTo (2 ^ maxShares))
+
+pub ones-hold : (table : List ℕ) → holdsOnes table ≡ true → Ones table
+unfolding Ones
+ones-hold table e w h = eqb-true (getD table w 0) (ones w) (every-at (2 ^ maxShares) w (λ w. eqb (getD table w 0) (ones w)) e h)
+
+pub ones-read : (table : List ℕ) (w : ℕ) → Ones table → w < 2 ^ maxShares → getD table w 0 ≡ ones w
+unfolding Ones
+ones-read table w all h = all w h
+
+-- a count that was looked up is that of the shares
+pub seen-count : (t : Terms) (w r : ℕ) → r ≡ ones w → w < 2 ^ maxShares → ((i : ℕ) → i < maxShares → bit w i ≡ dependsA maxShares t i) → r ≡ countA maxShares t
+seen-count t w r e h bits = e ∙ seen-ones t w h bits

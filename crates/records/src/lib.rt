@@ -2,4 +2,5 @@
 // The words of a sum are known here and in `record_words`: other crates hold a sum and pass it on.
 // These functions are the inside of the entries above. They ask what the entries have tested.
 pub mod layout;
+pub mod ones;
 pub mod sums;

@@ -8,7 +8,7 @@ ghost use Rattle.limits.specs.Limits.{maxShares, maxMasks};
 ghost use Rattle.basics.specs.Folds.{oneIf, some, upTo};
 ghost use Rattle.wires.specs.Wires.{none, plus, total, SumOfValues, countA, countB, masked, pays, allowed, sumBreaks, breaks, dependsA, dependsB};
 ghost use Rattle.wires.specs.Function.{outers};
-ghost use Rattle.records.specs.Words.{bit};
+ghost use Rattle.records.specs.Words.{bit, Ones};
 ghost use Rattle.records.specs.Layout.{wireAt, wireCount, wires, inside, termsOf, noSum, plusSum};
 use super::layout::MASKS_AT;
 use super::layout::OUTER_AT;
@@ -16,6 +16,8 @@ use super::layout::SHARES_A_AT;
 use super::layout::SHARES_B_AT;
 use super::layout::wide;
 use super::layout::word;
+use super::ones::WORDS;
+use super::ones::count;
 use limits::RECORD_BYTES;
 use wires::Notion;
 
@@ -218,17 +220,18 @@ pub fn payers(table: &[u8], notion: Notion, set: &[u16]) -> usize
 }
 
 // Whether a sum breaks where so many wires pay. Most sums keep a mask, so the masks come first.
-pub fn sum_breaks(sum: Sum, paid: usize) -> bool
+pub fn sum_breaks(ones: &[u8; WORDS], sum: Sum, paid: usize) -> bool
+    requires { ⌜ Ones (now ones) ⌝ }
     ensures { λ r. ⌜ r ≡ sumBreaks maxShares maxMasks paid (termsOf sum) ⌝ }
 {
     if is_masked(sum) {
         return false;
     }
-    let on = dependence(sum);
-    if paid < on.of_a {
+    let seen = shares_seen(sum);
+    if paid < count(ones, seen.a) {
         return true;
     }
-    paid < on.of_b
+    paid < count(ones, seen.b)
 }
 
 // Whether a set of wires breaks a notion. The set is the caller's: a wire given twice cancels and still pays.
@@ -236,5 +239,6 @@ pub fn set_breaks(table: &[u8], notion: Notion, set: &[u16]) -> bool
     requires { ⌜ inside (now table) (now set) ≡ true ⌝ }
     ensures { λ r. ⌜ r ≡ breaks notion maxShares maxMasks (map (wireAt (now (table .entry))) (now (set .entry))) ⌝ }
 {
-    sum_breaks(sum_of_set(table, set), payers(table, notion, set))
+    let ones = super::ones::table();
+    sum_breaks(&ones, sum_of_set(table, set), payers(table, notion, set))
 }

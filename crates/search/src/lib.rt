@@ -7,12 +7,14 @@ ghost use lib.ListN.{length};
 ghost use Rattle.limits.specs.Limits.{maxShares, maxMasks, maxWires, maxTableBytes, maxSize};
 ghost use Rattle.counts.specs.Counts.{binom, Counts};
 ghost use Rattle.revolving.specs.Order.{setAt};
+ghost use Rattle.records.specs.Words.{Ones};
 ghost use Rattle.records.specs.Layout.{wireCount};
 ghost use Rattle.running.specs.Kept.{Stands};
 ghost use Rattle.search.specs.Search.{searched, isBreaking, FirstSet, FirstRank, FirstFound};
 use counts::count;
 use limits::COUNTS;
 use limits::RECORD_BYTES;
+use records::ones::WORDS;
 use records::sums::sum_breaks;
 use running::Tally;
 use running::advance;
@@ -52,8 +54,9 @@ fn pass_over(
     to: u64,
     probes: &mut [u16],
     first: Tally,
+    ones: &[u8; WORDS],
 ) -> Stand
-    requires { ⌜ (wires ≡ wireCount (now table)) × (wires ≤ maxWires) × (size ≤ maxSize) × (size ≤ length (now probes)) × (from < to) × (to ≤ binom wires size) ⌝ }
+    requires { ⌜ (wires ≡ wireCount (now table)) × (wires ≤ maxWires) × (size ≤ maxSize) × (size ≤ length (now probes)) × (from < to) × (to ≤ binom wires size) × Ones (now ones) ⌝ }
     requires { ⌜ Stands notion (now table) wires size from (now probes) first ⌝ }
     ensures { λ r. ⌜ (from ≤ r .rank) × (r .rank < to) ⌝ }
     ensures { λ r. ⌜ Stands notion (now (table .entry)) wires size (r .rank) (now (probes .exit)) (r .tally) ⌝ }
@@ -71,7 +74,7 @@ fn pass_over(
             to - 1 - from,
         );
     while rank < last {
-        if sum_breaks(tally.sum, tally.paid) {
+        if sum_breaks(ones, tally.sum, tally.paid) {
             return Stand { rank, tally };
         }
         let slid = slide(table, notion, wires, size, probes, lowest, tally);
@@ -93,9 +96,10 @@ pub fn first_breaking(
     from: u64,
     to: u64,
     probes: &mut [u16],
+    ones: &[u8; WORDS],
 ) -> Found
     requires { ⌜ Counts (now counts) ⌝ }
-    requires { ⌜ (length (now table) ≤ maxTableBytes) × (high ≤ maxSize) × (high ≤ length (now probes)) ⌝ }
+    requires { ⌜ (length (now table) ≤ maxTableBytes) × (high ≤ maxSize) × (high ≤ length (now probes)) × Ones (now ones) ⌝ }
     ensures { λ r. ⌜ FirstFound (isBreaking notion (now (table .entry)) maxShares maxMasks) (wireCount (now (table .entry))) low high from to r (now (probes .exit)) ⌝ }
 {
     let wires = table.len() / RECORD_BYTES;
@@ -105,8 +109,8 @@ pub fn first_breaking(
         let mut tally = start(table, counts, notion, wires, size, from, probes);
         let mut rank = from;
         while rank < end {
-            let stand = pass_over(table, notion, wires, size, rank, end, probes, tally);
-            if sum_breaks(stand.tally.sum, stand.tally.paid) {
+            let stand = pass_over(table, notion, wires, size, rank, end, probes, tally, ones);
+            if sum_breaks(ones, stand.tally.sum, stand.tally.paid) {
                 found = Found {
                     size,
                     rank: stand.rank,
@@ -128,7 +132,8 @@ pub fn first_set(table: &[u8], notion: Notion, order: usize, probes: &mut [u16])
     ensures { λ r. ⌜ FirstSet (isBreaking notion (now (table .entry)) maxShares maxMasks) (searched (wireCount (now (table .entry))) order) r (now (probes .exit)) ⌝ }
 {
     let counts = counts::table();
-    let found = first_breaking(table, &counts, notion, 1, order, 0, u64::MAX, probes);
+    let ones = records::ones::table();
+    let found = first_breaking(table, &counts, notion, 1, order, 0, u64::MAX, probes, &ones);
     found.size
 }
 
@@ -146,6 +151,7 @@ pub fn first_rank(
     requires { ⌜ (length (now table) ≤ maxTableBytes) × (size ≤ maxSize) × (size ≤ length (now probes)) × (from ≤ to) × (to ≤ binom (wireCount (now table)) size) ⌝ }
     ensures { λ r. ⌜ FirstRank (isBreaking notion (now (table .entry)) maxShares maxMasks) (wireCount (now (table .entry))) size from to r (now (probes .exit)) ⌝ }
 {
-    let found = first_breaking(table, counts, notion, size, size, from, to, probes);
+    let ones = records::ones::table();
+    let found = first_breaking(table, counts, notion, size, size, from, to, probes, &ones);
     found.rank
 }

@@ -16,20 +16,20 @@ use Rattle.search.proofs.first_breaking.Statement.{statement}
 use Rattle.search.proofs.first_breaking.Tie as tie
 
 abbrev Inv-loop : tie.InvT-loop
-Inv-loop table counts notion low high from to probes₀ wires found₀ size end tally₀ rank₀ probes found tally rank =
+Inv-loop table counts notion low high from to probes₀ ones wires found₀ size end tally₀ rank₀ probes found tally rank =
     (found .size ≡ 0) × (found .rank ≡ to) × Clean (isBreaking notion table maxShares maxMasks) (wireCount table) size from rank × (from ≤ rank)
     × (rank < end → Stands notion table (wireCount table) size rank probes tally) × (length probes ≡ length probes₀)
 
 abbrev μ-loop : tie.MeasureT-loop
-μ-loop table counts notion low high from to probes₀ wires found₀ size end tally₀ rank₀ probes found tally rank = end - rank
+μ-loop table counts notion low high from to probes₀ ones wires found₀ size end tally₀ rank₀ probes found tally rank = end - rank
 
 abbrev Inv-search : tie.InvT-search
-Inv-search table counts notion low high from to probes₀ wires found₀ size₀ probes found size =
+Inv-search table counts notion low high from to probes₀ ones wires found₀ size₀ probes found size =
     (found .size ≡ 0) × (found .rank ≡ to) × Smaller (isBreaking notion table maxShares maxMasks) (wireCount table) low from to size × (low ≤ size)
     × (length probes ≡ length probes₀)
 
 abbrev μ-search : tie.MeasureT-search
-μ-search table counts notion low high from to probes₀ wires found₀ size₀ probes found size = high + 1 - size
+μ-search table counts notion low high from to probes₀ ones wires found₀ size₀ probes found size = high + 1 - size
 
 search-holds : tie.Need-search-holds Inv-loop μ-loop Inv-search μ-search
 search-holds c = (refl, refl, smaller-start _ _ _ _ _, le-refl _, refl)
@@ -51,10 +51,10 @@ loop-holds c =
 pass-over-requires : tie.Need-pass-over-requires Inv-loop μ-loop Inv-search μ-search
 pass-over-requires c κs =
     let held = c .before .before .loop .inv .4 (c .before .loop-test .taken) in
-    ((refl, search needs, search needs, search needs, (c .before .loop-test .taken), omega (arith, c .before .before .before .before .before .before .before .least .ensures .0, c .before .before .before .before .before .before .before .before .count .ensures)), held)
+    ((refl, search needs, search needs, search needs, (c .before .loop-test .taken), omega (arith, c .before .before .before .before .before .before .before .least .ensures .0, c .before .before .before .before .before .before .before .before .count .ensures), c .before .before .before .before .before .before .before .before .before .before .before .before .before .pre .1 .3), held)
 
 sum-breaks-requires : tie.Need-sum-breaks-requires Inv-loop μ-loop Inv-search μ-search
-sum-breaks-requires c κs = search needs
+sum-breaks-requires c κs = c .before .before .before .before .before .before .before .before .before .before .before .before .before .before .before .before .pre .1 .3
 
 add-rank : tie.Need-add-rank Inv-loop μ-loop Inv-search μ-search
 add-rank c = omega (arith, c .before .before .before .before .before .pass-over .ensures .0 .1)
@@ -128,7 +128,7 @@ returns c =
     nothing-found _ _ _ _ _ _ _ _ _ (s .0) (s .1) (c .search-test .left) (s .2)
 
 same-length-2 : tie.Need-same-length-2 Inv-loop μ-loop Inv-search μ-search
-same-length-2 c = search needs
+same-length-2 c = omega (arith, c .before .before .before .probes2 .given, c .before .before .before .before .before .before .before .loop .inv .5, c .before .before .before .before .before .before .before .before .before .probes .given, c .before .before .before .before .before .before .before .before .before .before .before .before .before .before .before .search .inv .4)
 
 returns-2 : tie.Need-returns-2 Inv-loop μ-loop Inv-search μ-search
 returns-2 c =

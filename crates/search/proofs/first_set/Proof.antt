@@ -11,6 +11,9 @@ use Rattle.search.proofs.first_set.Tie as tie
 table-requires : tie.Need-table-requires
 table-requires c κs = search needs
 
+table-requires-2 : tie.Need-table-requires-2
+table-requires-2 c κs = search needs
+
 first-breaking-requires : tie.Need-first-breaking-requires
 first-breaking-requires c κs = search needs
 
@@ -19,8 +22,10 @@ same-length c = search needs
 
 returns : tie.Need-returns
 returns c =
-    let start = c .before .before .before .before .before .before .before .before .pre in
+    let start = c .before .before .before .before .before .before .before .before .before .before .pre in
     sizes-told _ _ _ _ _ _ (λ k h. counts-fit _ k (omega (arith, start .0)) (omega (arith, h, start .1))) (c .before .before .first-breaking .ensures)
 
 pub first-set-spec : {M : Type 1} → statement M
-first-set-spec = tie.close (tie.spec table-requires first-breaking-requires same-length returns)
+first-set-spec =
+    tie.close
+    (tie.spec table-requires table-requires-2 first-breaking-requires same-length returns)

@@ -11,11 +11,11 @@ use Rattle.search.proofs.pass_over.Statement.{statement}
 use Rattle.search.proofs.pass_over.Tie as tie
 
 abbrev Inv-loop : tie.InvT-loop
-Inv-loop table notion wires size from to probes₀ rank₀ tally₀ lowest₀ last probes rank tally lowest =
+Inv-loop table notion wires size from to probes₀ ones rank₀ tally₀ lowest₀ last probes rank tally lowest =
     Passing notion table wires size from to last probes rank lowest tally × (length probes ≡ length probes₀) × (last < to)
 
 abbrev μ-loop : tie.MeasureT-loop
-μ-loop table notion wires size from to probes₀ rank₀ tally₀ lowest₀ last probes rank tally lowest = last - rank
+μ-loop table notion wires size from to probes₀ ones rank₀ tally₀ lowest₀ last probes rank tally lowest = last - rank
 
 returns : tie.Need-returns Inv-loop μ-loop
 returns c = ((le-refl _, c .before .before .before .pre .0 .4), (c .before .before .before .pre .1, λ i a b. let z : ⊥ = omega (arith, a, b) in absurd z))
@@ -59,7 +59,7 @@ loop-holds c =
     )
 
 sum-breaks-requires : tie.Need-sum-breaks-requires Inv-loop μ-loop
-sum-breaks-requires c κs = search needs
+sum-breaks-requires c κs = c .before .before .before .before .before .before .before .before .before .before .pre .0 .6
 
 same-length : tie.Need-same-length Inv-loop μ-loop
 same-length c = search needs
