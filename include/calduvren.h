@@ -35,7 +35,7 @@
  *   no other is touched; of a lent buffer nothing is touched past what is written.
  * - Every number may have any value and every buffer any contents. A call always returns, but nothing interrupts it: a
  *   verdict, a range check and a report take 1.5 to 6 nanoseconds for each set that they look at, and a verdict or a
- *   report that finds no breaking set looks at every set of up to as many wires as the order (of 512 wires, weeks at
+ *   report that finds no breaking set looks at every set of up to as many wires as the order (of 512 wires, months at
  *   order 7). calduvren_check_size tells beforehand how many these are, from a text alone; calduvren_set_count does so
  *   from a number of wires, and calduvren_job divides them for range checks.
  * - `yes`, `holds` and `clean` are 1 where the answer is good and 0 where it is not: a caller that sets them to 0
@@ -64,12 +64,12 @@ extern "C" {
 #endif
 
 /*
- * The version, for #if: major * 10000 + minor * 100 + patch, so 20200 is 2.2.0. A version that adds a function raises
+ * The version, for #if: major * 10000 + minor * 100 + patch, so 20201 is 2.2.1. A version that adds a function raises
  * the minor number, one that changes what a call with the same arguments answers raises the major one, and any other
  * the patch. Header and library belong together: the library tells no version of its own, so keep it with the header
  * that it came with.
  */
-#define CALDUVREN_VERSION 20200
+#define CALDUVREN_VERSION 20201
 
 #define CALDUVREN_MAX_TEXT_BYTES 4096
 #define CALDUVREN_RECORD_BYTES 24

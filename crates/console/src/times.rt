@@ -6,7 +6,7 @@ ghost use Rattle.console.specs.Times.{timeBytes};
 use pages::write_named;
 use pages::write_text;
 
-// About so many sets are looked at in a second, on one core: 180 to 700 million were measured.
+// About so many sets are looked at in a second, on one core: 180 to 700 million were measured (bench/README.md).
 pub const SETS_A_SECOND: u64 = 200_000_000;
 
 // No time takes more bytes in words.

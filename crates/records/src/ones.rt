@@ -6,7 +6,7 @@ ghost use lib.Count.{ones};
 ghost use Rattle.limits.specs.Limits.{maxShares};
 ghost use Rattle.records.specs.Words.{Ones};
 
-// As many as there are such words.
+// As many as there are such words: 2 to the power of MAX_SHARES.
 pub const WORDS: usize = 256;
 
 const ONES: [u8; WORDS] = [

@@ -12,19 +12,19 @@ use native.Mathlib.Omega.{arith}
 use mathlib.Core.Path.{_≡_, refl, sym, _∙_, ap, ap₂, subst}
 use mathlib.Core.Bool.{Bool, true, false, cond, not, _&&_, _||_, true≢false}
 use mathlib.Core.List.{List, [], _∷_, _++_, map}
-use borrow.Author.Tests.{ne-eqb, eqb-true}
+use borrow.Author.Tests.{eqb-true}
 use lib.Dec.{eqb, ltb}
 use lib.ListN.{length, getD, take, drop, length-map, List·getD-append}
 use lib.Seq.{take-at, length-take-le, getD-take}
 use Rattle.limits.specs.Limits.{maxWires, maxSize}
 use Rattle.basics.specs.Folds.{fold, every, oneIf}
 use Rattle.basics.proofs.Folds.{fold-map}
-use Rattle.basics.proofs.Tests.{xor-self, xor-comm, and-right, or-cases}
+use Rattle.basics.proofs.Tests.{xor-self, xor-comm, and-right}
 use Rattle.counts.specs.Counts.{binom}
 use Rattle.records.specs.Layout.{wireAt, wireCount, inside, termsOf}
 use Rattle.wires.specs.declared.Notion.{Notion}
 use Rattle.wires.specs.Wires.{Terms, Wire, none, plus, total, SumOfValues, pays, allowed}
-use Rattle.wires.proofs.Value.{terms-ext, plus-none, none-plus, plus-assoc, sum-of-values}
+use Rattle.wires.proofs.Value.{terms-ext, plus-none, plus-assoc, sum-of-values}
 use Rattle.revolving.specs.Order.{setAt, rising, below, isSet}
 use Rattle.revolving.proofs.Rising.{Chosen, isSet-parts}
 use Rattle.revolving.proofs.Revolving.{set-at-is-set}
@@ -82,7 +82,7 @@ module _ (table : List ℕ) (n x y : ℕ) (s t : List ℕ) (c : Chosen 0 n s) (d
   sum-over : (l : List ℕ) → total (map (wireAt table) l) ≡ fold plus none terms l
   sum-over = fold-map plus none (wireAt table) (λ w. w .terms)
 
-  sum-exchanged : (u : Terms) → u ≡ total (map (wireAt table) s) → plus (plus u (terms x)) (terms y) ≡ total (map (wireAt table) t)
+  pub sum-exchanged : (u : Terms) → u ≡ total (map (wireAt table) s) → plus (plus u (terms x)) (terms y) ≡ total (map (wireAt table) t)
   sum-exchanged u is =
       let both = two-sums plus none plus-comm plus-assoc terms n x y s t c d h in
       let others = both .0 in
@@ -100,7 +100,7 @@ module _ (table : List ℕ) (n x y : ℕ) (s t : List ℕ) (c : Chosen 0 n s) (d
     leaving-paid : paying x ≤ allowed notion (map (wireAt table) s)
     leaving-paid = let both = two-sums _+_ 0 add-comm add-assoc paying n x y s t c d h in omega (arith, paid-over s, both .1)
 
-    paid-exchanged : (k m : ℕ) → k ≡ allowed notion (map (wireAt table) s) → m + paying x ≡ k + paying y → m ≡ allowed notion (map (wireAt table) t)
+    pub paid-exchanged : (k m : ℕ) → k ≡ allowed notion (map (wireAt table) s) → m + paying x ≡ k + paying y → m ≡ allowed notion (map (wireAt table) t)
     paid-exchanged k m is moved =
         let both = two-sums _+_ 0 add-comm add-assoc paying n x y s t c d h in
         omega (arith, is, moved, paid-over s, paid-over t, both .1, both .2)

@@ -1,3 +1,3 @@
 -- The definitions that the promises of `running` cite.
---     Kept     the sum that a walk keeps
+--     Kept     the tally that a walk keeps, and where it stands
 pub mod Kept

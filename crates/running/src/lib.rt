@@ -34,7 +34,7 @@ pub struct Slid {
     pub tally: Tally,
 }
 
-// Writes the set at a rank to the start of `probes`, and makes its tally. Where there is no such rank, nothing is written.
+// Writes the set at a rank to the start of `probes`, and makes its tally. Where there is no such rank nothing is promised.
 pub fn start(
     table: &[u8],
     counts: &[u64; COUNTS],

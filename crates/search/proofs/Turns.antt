@@ -22,20 +22,18 @@ use native.Mathlib.Numerals.{add-one}
 use native.Mathlib.Omega.{arith}
 use mathlib.Core.Path.{_≡_, refl, sym, _∙_, ap, ap₂, subst}
 use mathlib.Core.Logic.{_⊎_, inl, inr}
-use mathlib.Core.Bool.{Bool, true, false, _&&_}
+use mathlib.Core.Bool.{Bool, true, false}
 use mathlib.Core.List.{List, [], _∷_, _++_, map, append-assoc, append-nil}
-use lib.Dec.{ltb, eqb}
 use lib.ListN.{length, getD, take, drop, length-drop}
-use lib.Seq.{take-at, take-all, take-take, getD-take, getD-drop, length-take-le}
+use lib.Seq.{take-all, take-take, getD-take, getD-drop, length-take-le}
 use Rattle.limits.specs.Limits.{maxShares, maxMasks, sizes}
-use Rattle.basics.specs.Folds.{keep, every}
-use Rattle.basics.proofs.Tests.{and-right}
+use Rattle.basics.specs.Folds.{keep}
 use Rattle.basics.proofs.Folds.{keep-append}
 use Rattle.wires.specs.declared.Notion.{Notion}
 use Rattle.wires.specs.Wires.{sumBreaks, breaks}
 use Rattle.records.specs.Layout.{wireAt, termsOf}
 use Rattle.counts.specs.Counts.{binom}
-use Rattle.revolving.specs.Order.{revolving, setAt, rising, below, isSet}
+use Rattle.revolving.specs.Order.{revolving, setAt, below, isSet}
 use Rattle.revolving.proofs.Rising.{isSet-parts}
 use Rattle.revolving.proofs.Revolving.{revolving-length, set-at-is-set}
 use Rattle.walk.specs.Neighbours.{HasNext, nextSet}
@@ -46,7 +44,7 @@ use Rattle.running.specs.Kept.{Kept, Stands}
 use Rattle.running.proofs.Exchanging.{part}
 use Rattle.running.proofs.Telling.{kept-breaks}
 use Rattle.search.specs.declared.Found.{Found}
-use Rattle.search.specs.Search.{searched, stretch, isBreaking, first, FirstSet, FirstRank, FirstAt, FirstFound}
+use Rattle.search.specs.Search.{searched, stretch, isBreaking, first, FirstSet, FirstRank, FirstFound}
 use Rattle.search.proofs.Keeping.{take-none, drop-none, keep-none-more, keep-found}
 
 -- ---- one set

@@ -34,6 +34,7 @@ pub struct Found {
     pub rank: u64,
 }
 
+// The smaller of two numbers.
 fn least(a: u64, b: u64) -> u64
     ensures { λ r. ⌜ (r ≤ a) × (r ≤ b) × ((i : ℕ) → i < a → i < b → i < r) ⌝ }
 {
@@ -131,6 +132,7 @@ pub fn first_set(table: &[u8], notion: Notion, order: usize, probes: &mut [u16])
     requires { ⌜ (length (now table) ≤ maxTableBytes) × (order ≤ maxSize) × (order ≤ length (now probes)) ⌝ }
     ensures { λ r. ⌜ FirstSet (isBreaking notion (now (table .entry)) maxShares maxMasks) (searched (wireCount (now (table .entry))) order) r (now (probes .exit)) ⌝ }
 {
+    // no size has as many sets as the largest number
     let counts = counts::table();
     let ones = records::ones::table();
     let found = first_breaking(table, &counts, notion, 1, order, 0, u64::MAX, probes, &ones);

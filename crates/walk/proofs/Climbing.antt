@@ -3,11 +3,9 @@
 --     Moves d             the one follows the other, or the other way round, by the direction d
 --     turns               a direction turned round so many times
 --     moves-all           what is a step below a limit is one of the whole set: each wire above turns the direction round
---     rise, fall          the step at a place
---     rise-blocked, fall-blocked, last-blocked     no step at a place, and at none
-use Prim.Native.Nat.{ℕ, zero, suc, _+_, _-_, _%_, _≤_, _<_}
-use native.Mathlib.Nat.{not-suc-le-zero}
-use native.Mathlib.Numerals.{add-one}
+--     chosen-after, above-first, chosen-away, chosen-has     what a rising list has
+--     rise-list, fall-list                         the step at a place
+use Prim.Native.Nat.{ℕ, zero, suc, _+_, _-_, _≤_, _<_}
 use native.Mathlib.Omega.{arith}
 use mathlib.Core.Path.{_≡_, refl, sym, _∙_, ap, ap₂, subst}
 use mathlib.Core.Logic.{_⊎_, inl, inr}
@@ -15,20 +13,19 @@ use mathlib.Core.Bool.{Bool, true, false, not, true≢false}
 use mathlib.Core.List.{List, [], _∷_, _++_, append-assoc, append-nil}
 use borrow.Author.Tests.{ne-eqb, eqb-true}
 use lib.Dec.{eqb}
-use lib.ListN.{length, getD, take, drop, set, length-append, length-drop}
-use lib.Seq.{split-at, take-suc, drop-cons}
+use lib.ListN.{length, length-append}
 use Rattle.basics.specs.Folds.{upTo}
 use Rattle.basics.proofs.Tests.{or-cases}
 use Rattle.basics.proofs.Folds.{up-to-last, up-to-length}
 use Rattle.counts.specs.Counts.{binom}
 use Rattle.counts.proofs.Binomial.{binom-suc, binom-wider}
-use Rattle.revolving.specs.Order.{setAt, isSet, rankOf}
+use Rattle.revolving.specs.Order.{setAt, rankOf}
 use Rattle.revolving.proofs.Rising.{Chosen, isSet-parts}
 use Rattle.revolving.proofs.Revolving.{set-at-step, rank-unique}
 use Rattle.walk.specs.Neighbours.{contains, Exchanged, HasNext, nextSet}
-use Rattle.walk.specs.Places.{isOdd, head, limit, Blocked}
+use Rattle.walk.specs.Places.{head}
 use Rattle.walk.proofs.Exchanges.{turned, beside}
-use Rattle.walk.proofs.Neighbours.{first-set, last-set, before, after, leaving, seam, seam-exchanged}
+use Rattle.walk.proofs.Neighbours.{first-set, before, after, leaving, seam, seam-exchanged}
 
 pub record Follows (n k : ℕ) (s t : List ℕ) : Type 0 where
   pub rank : ℕ

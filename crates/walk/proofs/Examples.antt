@@ -2,10 +2,9 @@
 --     three-of-five   of the ten sets of 3 out of 5 wires the first step, the step that the misprint in 002 gets wrong, and the last
 --     two-of-four     the first three steps of the sets of 2 out of 4 wires, with what leaves and enters
 use mathlib.Core.Path.{_≡_, refl}
-use mathlib.Core.Bool.{true, false}
 use mathlib.Core.List.{[], _∷_}
 use Rattle.revolving.specs.Order.{revolving}
-use Rattle.walk.specs.Neighbours.{contains, without, Exchanged, nextSet}
+use Rattle.walk.specs.Neighbours.{Exchanged, nextSet}
 
 pub three-of-five : (nextSet 5 (0 ∷ 1 ∷ 2 ∷ []) ≡ 0 ∷ 2 ∷ 3 ∷ []) × (nextSet 5 (2 ∷ 3 ∷ 4 ∷ []) ≡ 0 ∷ 2 ∷ 4 ∷ []) × (nextSet 5 (1 ∷ 2 ∷ 4 ∷ []) ≡ 0 ∷ 1 ∷ 4 ∷ [])
 unfolding nextSet revolving

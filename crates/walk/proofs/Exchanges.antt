@@ -4,14 +4,14 @@
 --     lost, gained               what the one list has and the other has not
 --     kept                       every other wire is in both or in neither
 --     exchanged-once             two lists are one exchange apart
-use Prim.Native.Nat.{ℕ, zero, suc, _≤_, _<_}
+use Prim.Native.Nat.{ℕ, suc, _≤_, _<_}
 use native.Mathlib.Omega.{arith}
 use mathlib.Core.Path.{_≡_, refl, sym, _∙_, ap, ap₂}
 use mathlib.Core.Bool.{Bool, true, false, cond, _||_, not, true≢false, or-assoc}
 use mathlib.Core.List.{List, [], _∷_, _++_}
 use borrow.Author.Tests.{eq-eqb, ne-eqb, eqb-true}
 use lib.Dec.{eqb}
-use Rattle.basics.specs.Folds.{some, keep, upTo}
+use Rattle.basics.specs.Folds.{upTo}
 use Rattle.basics.proofs.Tests.{or-none}
 use Rattle.basics.proofs.Folds.{fold-append, keep-append, none-below}
 use Rattle.walk.specs.Neighbours.{contains, without, Exchanged}

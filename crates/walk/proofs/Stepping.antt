@@ -16,7 +16,7 @@ use native.Mathlib.Numerals.{add-one}
 use native.Mathlib.Omega.{arith}
 use mathlib.Core.Path.{_≡_, refl, sym, _∙_, ap, ap₂, subst}
 use mathlib.Core.Bool.{Bool, true, false, cond, not, _&&_, true≢false}
-use mathlib.Core.List.{List, [], _∷_, _++_, append-assoc, append-nil}
+use mathlib.Core.List.{List, [], _∷_, _++_, append-assoc}
 use borrow.Author.Tests.{eq-eqb, ne-eqb, eqb-true}
 use lib.Dec.{eqb}
 use lib.ListN.{length, getD, take, drop, set, length-set, length-drop, drop-of-length-le}
@@ -32,7 +32,7 @@ use Rattle.revolving.proofs.Revolving.{rank-unique, set-at-is-set}
 use Rattle.revolving.proofs.Unranking.{wire-inside}
 use Rattle.walk.specs.Neighbours.{Exchanged, HasNext, nextSet}
 use Rattle.walk.specs.Places.{isOdd, head, limit, room, Blocked}
-use Rattle.walk.proofs.Neighbours.{first-set, last-set, before, after, leaving}
+use Rattle.walk.proofs.Neighbours.{first-set, last-set, before, after}
 use Rattle.walk.proofs.Climbing.{turns, Stepped, chosen, chosen-after, above-first, head-above, rise-list, fall-list}
 
 -- ---- directions

@@ -1,13 +1,13 @@
 -- What the request asks of the order and of the step, in its own words.
 --     Lost, Gained          a wire is the only one that a set has lost, that it has gained
 --     one-lost-one-gained   for every number of wires and every size: each next set has lost just one wire and gained just one
+--     exchanged-by          the two are those of the exchange
 --     step-tells            the two that the step tells are these
---     step-changes          they are wires of the table, and every other wire is in both sets or in neither
+--     step-changes          they are of the n wires, and every other wire is in both sets or in neither
 --     steps-once            a set has one next set, and one pair of wires that leave and enter
-use Prim.Native.Nat.{ℕ, suc, _+_, _<_}
+use Prim.Native.Nat.{ℕ, _+_, _<_}
 use native.Mathlib.Numerals.{add-one}
-use native.Mathlib.Omega.{arith}
-use mathlib.Core.Path.{_≡_, refl, sym, _∙_, ap, subst}
+use mathlib.Core.Path.{_≡_, sym, _∙_, ap, subst}
 use mathlib.Core.Logic.{_↔_}
 use mathlib.Core.Bool.{true, false}
 use mathlib.Core.List.{List}
@@ -16,7 +16,7 @@ use lib.ListN.{length}
 use Rattle.counts.specs.Counts.{binom}
 use Rattle.revolving.specs.Order.{setAt, isSet}
 use Rattle.revolving.proofs.Rising.{isSet-parts}
-use Rattle.walk.specs.Neighbours.{contains, Exchanged, HasNext, nextSet}
+use Rattle.walk.specs.Neighbours.{contains, Exchanged, nextSet}
 use Rattle.walk.proofs.Exchanges.{lost, gained, kept, exchanged-once}
 use Rattle.walk.proofs.Neighbours.{neighbours}
 use Rattle.walk.proofs.Climbing.{chosen, chosen-has}
@@ -48,6 +48,19 @@ one-lost-one-gained n k r h =
     let e : Exchanged (setAt n k r) (setAt n k (r + 1)) (both .leaves) (both .enters) =
     subst (λ (i : ℕ). Exchanged (setAt n k r) (setAt n k i) (both .leaves) (both .enters)) (sym one) (both .exchanged) in
     (both .leaves, both .enters, just-lost e, just-gained e)
+
+-- so what is lost and what is gained are the two of an exchange
+pub exchanged-by : (n k r x y : ℕ) → r + 1 < binom n k → Lost (setAt n k r) (setAt n k (r + 1)) x → Gained (setAt n k r) (setAt n k (r + 1)) y
+    → Exchanged (setAt n k r) (setAt n k (r + 1)) x y
+exchanged-by n k r x y h lost-is gained-is =
+    let one = add-one r in
+    let both = neighbours n k r (subst (λ (i : ℕ). i < binom n k) one h) in
+    let e : Exchanged (setAt n k r) (setAt n k (r + 1)) (both .leaves) (both .enters) =
+    subst (λ (i : ℕ). Exchanged (setAt n k r) (setAt n k i) (both .leaves) (both .enters)) (sym one) (both .exchanged) in
+    let same : both .leaves ≡ x = lost-is (both .leaves) .0 (e .was, e .gone) in
+    let also : both .enters ≡ y = gained-is (both .enters) .0 (e .come, e .fresh) in
+    subst (λ (i : ℕ). Exchanged (setAt n k r) (setAt n k (r + 1)) i y) same
+    (subst (λ (j : ℕ). Exchanged (setAt n k r) (setAt n k (r + 1)) (both .leaves) j) also e)
 
 -- the set at a rank, and what the step promises of it
 module _ (n k r : ℕ) (s t : List ℕ) (x y : ℕ) (here : s ≡ setAt n k r) (more : r + 1 < binom n k) (next : t ≡ nextSet n s) (e : Exchanged s t x y) where

@@ -1,5 +1,6 @@
 // The walk over the sets of one size in the published order: from a set, in place, to the next one, with the wire that leaves and the wire
-// that enters. It needs no table of counts, and on the average it looks at less than two places of the set. It knows no record and no verdict.
+// that enters. It needs no table of counts; how many places of a set it looks at is bounded on the average over all sets of a size. It knows no
+// record and no verdict.
 ghost use mathlib.Core.Path.{_≡_};
 ghost use mathlib.Core.Bool.{true};
 ghost use Prim.Native.Nat.{_+_, _≤_, _<_};
@@ -33,6 +34,7 @@ fn climb(wires: usize, set: &mut [u16]) -> Exchange
     ensures { λ r. ⌜ now (set .exit) ≡ nextSet wires (now (set .entry)) ⌝ }
     ensures { λ r. ⌜ Exchanged (now (set .entry)) (now (set .exit)) (r .leaves) (r .enters) ⌝ }
 {
+    // whether the wires up to `below` were to rise, and could not
     let mut rising = set.len() % 2 == 1;
     let mut below = 0;
     while below + 1 < set.len() {
@@ -98,7 +100,7 @@ pub fn slide(wires: usize, set: &mut [u16], lowest: usize) -> usize
     lowest - 1
 }
 
-// Takes a set to the next one of its size. Most steps move the lowest wire alone.
+// Takes a set to the next one of its size: the lowest wire moves where it can.
 pub fn step(wires: usize, set: &mut [u16]) -> Exchange
     requires { ⌜ (wires ≤ maxWires) × HasNext wires (now set) ⌝ }
     ensures { λ r. ⌜ now (set .exit) ≡ nextSet wires (now (set .entry)) ⌝ }

@@ -1,6 +1,5 @@
 -- `search::first_set` meets its contract: every rank of a size is below the largest number.
 -- Assumes nothing.
-use Prim.Native.Nat.{_≤_}
 use native.Mathlib.Omega.{arith}
 use borrow.Author.Needs.{needs}
 use Rattle.counts.proofs.Binomial.{counts-fit}

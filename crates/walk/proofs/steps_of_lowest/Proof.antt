@@ -1,10 +1,10 @@
 -- `walk::steps_of_lowest` meets its contract: up to the next wire, or down to 0.
 -- Assumes nothing.
 use native.Mathlib.Omega.{arith}
-use mathlib.Core.Path.{sym, _∙_}
+use mathlib.Core.Path.{sym}
 use borrow.Author.Needs.{needs}
 use borrow.Author.Tests.{eq-eqb, ne-eqb}
-use Rattle.walk.proofs.Stepping.{room-odd, room-even, room-read, below-limit}
+use Rattle.walk.proofs.Stepping.{room-even, room-read, below-limit}
 use Rattle.walk.proofs.steps_of_lowest.Statement.{statement}
 use Rattle.walk.proofs.steps_of_lowest.Tie as tie
 

@@ -31,7 +31,7 @@ const BEFORE: &str = "calduvren_";
 /// The header's rule: a function more raises the version's minor number, another answer to the same call its major one.
 /// So these two change together.
 const FUNCTIONS: usize = 13;
-const VERSION: usize = 20_200;
+const VERSION: usize = 20_201;
 
 /// A function's arguments as C declares them.
 type Declarations = BTreeMap<String, Vec<String>>;

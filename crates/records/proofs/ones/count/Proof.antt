@@ -1,7 +1,6 @@
 -- `records::ones::count` meets its contract: the entry at a word is how many ones it has.
 -- Assumes nothing.
 use native.Mathlib.Omega.{arith}
-use borrow.Author.Needs.{needs}
 use lib.Count.{ones-le}
 use Rattle.limits.specs.Limits.{maxShares}
 use Rattle.records.proofs.Shares.{ones-read}
