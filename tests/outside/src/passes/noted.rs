@@ -7,7 +7,7 @@ const OTHER: &str = "report: function other: the output lines differ from ";
 const DEPENDS: &str = "    depends on ";
 
 /// Each kind with what is in the notes of it, and of no other.
-const KINDS: [(&str, &str); 24] = [
+const KINDS: [(&str, &str); 23] = [
     ("1", ": the text is longer"),
     ("2", ": the first line"),
     ("3", ": the second line"),
@@ -31,7 +31,6 @@ const KINDS: [(&str, &str); 24] = [
     ("minutes", " minutes;"),
     ("hours", " hours;"),
     ("days", " days;"),
-    ("years", " years;"),
 ];
 
 /// Each function with a kind of symbols in which another may differ from it. With a product it is compared with the
