@@ -23,7 +23,8 @@ use Rattle.revolving.specs.Order.{revolving}
 use Rattle.sets.specs.Answers.{setCount, setFromRank, rankFromSet, jobRanks}
 use Rattle.table.specs.Answers.{functionCheck}
 use Rattle.table.proofs.Examples.{tableA, tableB, tableC}
-use Rattle.search.specs.Search.{searched, isBreaking}
+use Rattle.breaking.specs.Breaking.{isBreaking}
+use Rattle.search.specs.Search.{searched}
 use Rattle.verdict_answers.specs.Answers.{verdictOf, rangeCheck}
 use Rattle.description.specs.Header.{orderLine, masksLine, namesFrom}
 use Rattle.description.specs.Listing.{encode}

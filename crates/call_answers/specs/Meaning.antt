@@ -32,7 +32,7 @@ use Rattle.revolving.specs.Order.{setAt, rankOf}
 use Rattle.sets.specs.Division.{start}
 use Rattle.table.specs.Answers.{tableCheck}
 use Rattle.verdict_answers.specs.Answers.{notionOf}
-use Rattle.search.specs.Search.{isBreaking}
+use Rattle.breaking.specs.Breaking.{isBreaking}
 use Rattle.verdict_answers.specs.Guarantee.{Watched, HasChoice, Shown}
 use Rattle.verdict_answers.specs.First.{FirstBreaking, FirstInRange}
 use Rattle.description.specs.Grammar.{Description, Spells}

@@ -19,7 +19,7 @@ use Rattle.records.specs.Layout.{wireAt, wireCount, inside}
 use Rattle.table.proofs.Entries.{set-within}
 use Rattle.revolving.specs.Order.{rising, below}
 use Rattle.revolving.proofs.Rising.{parts-isSet}
-use Rattle.running.proofs.Exchanging.{set-inside}
+use Rattle.running.proofs.Inside.{is-set-inside}
 use Rattle.verdict_answers.specs.declared.Refusal.{Refusal}
 use Rattle.verdict_answers.specs.declared.Refusal.the-variants.{SizeTooLarge, NotASet}
 use Rattle.verdict_answers.specs.declared.DependenceAnswer.{DependenceAnswer}
@@ -35,7 +35,7 @@ DependencePromise answer table shares masks notion set =
     (dependenceTold answer ≡ setDependence table shares masks notion set) × DependenceMeans answer table shares masks notion set
 
 pub rising-inside : (table set : List ℕ) → (rising set && below (wireCount table) set) ≡ true → inside table set ≡ true
-rising-inside table set e = set-inside table (length set) set (parts-isSet (wireCount table) (length set) set refl e)
+rising-inside table set e = is-set-inside table (length set) set (parts-isSet (wireCount table) (length set) set refl e)
 
 module _ (table : List ℕ) (shares masks notion : ℕ) (set : List ℕ) where
   abbrev own-answer : Told

@@ -3,15 +3,15 @@
 ghost use mathlib.Core.Path.{_≡_};
 ghost use Rattle.verdict_answers.specs.Answers.{dependenceTold, setDependence};
 ghost use Rattle.verdict_answers.specs.Dependence.{DependenceMeans};
+use breaking::is_masked;
+use breaking::payers;
 use limits::MAX_SIZE;
 use limits::RECORD_BYTES;
 use opening::Opened;
 use opening::opening;
-use records::sums::dependence;
-use records::sums::is_masked;
-use records::sums::payers;
 use records::sums::sum_of_set;
 use revolving::is_rising;
+use shares::dependence;
 use verdict_answers::DependenceAnswer;
 use verdict_answers::Refusal;
 

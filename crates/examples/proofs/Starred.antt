@@ -24,7 +24,8 @@ use Rattle.sets.proofs.Examples.{rank-one-of-pairs}
 use Rattle.description.specs.Header.{orderLine, masksLine, namesFrom}
 use Rattle.description.specs.Listing.{encode}
 use Rattle.description.specs.Run.{run}
-use Rattle.search.specs.Search.{searched, isBreaking}
+use Rattle.breaking.specs.Breaking.{isBreaking}
+use Rattle.search.specs.Search.{searched}
 use Rattle.pages.specs.Decimal.{decimal}
 use Rattle.verdict_lines.specs.Lines.{notionLine}
 use Rattle.report_text.specs.Report.{functionLine, checked, report}

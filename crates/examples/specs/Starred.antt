@@ -26,7 +26,7 @@ use Rattle.counts.specs.Counts.{binom}
 use Rattle.wires.specs.declared.Notion.{Notion}
 use Rattle.sets.specs.Answers.{setCount, setFromRank, rankFromSet, jobRanks}
 use Rattle.sets.specs.Visits.{SetTells}
-use Rattle.search.specs.Search.{isBreaking}
+use Rattle.breaking.specs.Breaking.{isBreaking}
 use Rattle.verdict_answers.specs.Answers.{rangeCheck, setDependence}
 use Rattle.reader.specs.Answers.{ReadTold, gives, refused, readText}
 use Rattle.verdict_lines.specs.Lines.{emptySet}

@@ -15,9 +15,10 @@ use Rattle.records.specs.Layout.{wireAt, wireCount}
 use Rattle.table.proofs.Entries.{set-decided}
 use Rattle.revolving.specs.Order.{revolving, setAt, isSet}
 use Rattle.revolving.proofs.Revolving.{revolving-length, set-at-is-set}
-use Rattle.search.specs.Search.{searched, stretch, isBreaking}
+use Rattle.breaking.specs.Breaking.{isBreaking}
+use Rattle.search.specs.Search.{searched, stretch}
 use Rattle.search.proofs.Keeping.{each-place, each-take, each-drop, keep-same}
-use Rattle.running.proofs.Exchanging.{set-inside}
+use Rattle.running.proofs.Inside.{is-set-inside}
 use Rattle.verdict_answers.specs.Answers.{notionOf}
 use Rattle.verdict_answers.proofs.Watching.{each-searched}
 use Rattle.opening.proofs.Admitting.{Opens}
@@ -32,7 +33,7 @@ module _ (table : List ℕ) (shares masks notion : ℕ) (kind : Notion) (o : Ope
   decided : (k : ℕ) (s : List ℕ) → isSet (wireCount table) k s ≡ true → wide s ≡ own s
   unfolding isBreaking
   decided k s e =
-      set-decided table shares masks (o .sound) kind s (set-inside table k s e)
+      set-decided table shares masks (o .sound) kind s (is-set-inside table k s e)
       ∙ ap (λ (i : Notion). breaks i shares masks (map (wireAt table) s)) (o .named)
 
   pub searched-decided : (order : ℕ) → keep wide (searched (wireCount table) order) ≡ keep own (searched (wireCount table) order)

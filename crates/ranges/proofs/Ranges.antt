@@ -21,10 +21,11 @@ use Rattle.revolving.specs.Order.{setAt}
 use Rattle.revolving.proofs.Rising.{isSet-parts}
 use Rattle.revolving.proofs.Revolving.{set-at-is-set, rank-of-set}
 use Rattle.verdict_answers.specs.declared.RangeAnswer.{RangeAnswer}
-use Rattle.search.specs.Search.{stretch, isBreaking, first, FirstRank}
+use Rattle.breaking.specs.Breaking.{isBreaking}
+use Rattle.search.specs.Search.{stretch, first, FirstRank}
 use Rattle.verdict_answers.specs.Answers.{rangeTold, notionOf, written, firstRanked, rangeCheck}
 use Rattle.verdict_answers.proofs.Conditions.{range-answered}
-use Rattle.search.proofs.Turns.{rank-first}
+use Rattle.search.proofs.Ranges.{rank-first}
 use Rattle.opening.specs.declared.Opened.{Opened}
 use Rattle.opening.specs.Opening.{openedTold, opens}
 use Rattle.opening.proofs.Admitting.{opened-for, short, opened-answer, opened-refusal}

@@ -23,7 +23,7 @@ use Rattle.records.specs.Words.{bit}
 use Rattle.records.specs.Layout.{decodeTerms}
 use Rattle.record_words.specs.Cut.{FirstShares}
 use Rattle.records.proofs.Words.{bit-zero, no-bit}
-use Rattle.records.proofs.Shares.{within-row}
+use Rattle.records.proofs.Bytes.{within-row}
 
 abbrev products : List ℕ
 products = 0 ∷ 0x01 ∷ 0x0303 ∷ 0x070707 ∷ 0x0f0f0f0f ∷ 0x1f1f1f1f1f ∷ 0x3f3f3f3f3f3f ∷ 0x7f7f7f7f7f7f7f ∷ 0xffffffffffffffff ∷ []

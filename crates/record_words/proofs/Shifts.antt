@@ -14,7 +14,7 @@ use Rattle.wires.specs.declared.Symbol.the-variants.{Product, ShareA, ShareB, M
 use Rattle.records.specs.Words.{bit}
 use Rattle.records.specs.declared.sums.Sum.{Sum}
 use Rattle.record_words.specs.Symbols.{sumWith, symbolSum, isIn, Small}
-use Rattle.records.proofs.Shares.{within-row}
+use Rattle.records.proofs.Bytes.{within-row}
 
 module _ (s : Symbol) (small : Small s) where
   pub small-product : (i j : ℕ) → s ≡ Product i j → (i < maxShares) × (j < maxShares)

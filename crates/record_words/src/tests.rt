@@ -8,7 +8,7 @@ ghost use Rattle.wires.specs.Wires.{beyond};
 ghost use Rattle.records.specs.Words.{bit};
 ghost use Rattle.records.specs.Layout.{termsOf};
 use records::sums::Sum;
-use records::sums::shares_seen;
+use shares::shares_seen;
 
 // Whether a word has no bit from `limit` on.
 fn ends_below(word: u64, limit: usize) -> bool

@@ -6,15 +6,12 @@
 --     outer-byte           the byte that tells an outer wire
 --     set-inside           every wire of a set is one of the table's
 --     total-more           the sum with one wire more of a set
---     payers-more          how many wires pay, with one wire more of a set
---     whole-set, whole-count, whole-table     all wires of the set, of the table
---     ni-pays, sni-pays    what a wire pays under NI, and under SNI
+--     whole-set, whole-table     all wires of the set, of the table
 --     outers-taken, outers-left     the sum of the outer wires with one wire more of the table, an outer or an inner one
 use Prim.Native.Nat.{ℕ, zero, suc, _+_, _*_, _≤_, _<_}
-use native.Mathlib.Nat.{zero-add, add-zero, add-assoc}
 use native.Mathlib.Omega.{arith}
 use mathlib.Core.Path.{_≡_, sym, _∙_, ap, ap₂}
-use mathlib.Core.Bool.{Bool, true, false, cond, not, _&&_, and-false}
+use mathlib.Core.Bool.{Bool, true, false, cond, _&&_, and-false}
 use mathlib.Core.List.{List, [], _∷_, _++_, map, map-append}
 use lib.Bits.{bitXor}
 use borrow.Author.Tests.{ltb-true}
@@ -22,12 +19,10 @@ use lib.Dec.{ltb}
 use lib.ListN.{length, take, drop, getD}
 use lib.Seq.{take-all}
 use Rattle.limits.specs.Limits.{recordBytes}
-use Rattle.basics.specs.Folds.{oneIf, upTo}
+use Rattle.basics.specs.Folds.{upTo}
 use Rattle.basics.proofs.Tests.{xor-and}
 use Rattle.basics.proofs.Folds.{fold-append, fold-more, up-to-last, keep-append, every-place}
-use Rattle.wires.specs.declared.Notion.{Notion}
-use Rattle.wires.specs.declared.Notion.the-variants.{Ni, Sni}
-use Rattle.wires.specs.Wires.{Terms, Wire, none, plus, total, SumOfValues, pays, allowed}
+use Rattle.wires.specs.Wires.{Terms, Wire, none, plus, total, SumOfValues}
 use Rattle.wires.specs.Function.{outers}
 use Rattle.wires.proofs.Value.{terms-ext, plus-none, none-plus, plus-assoc, sum-of-values}
 use Rattle.records.specs.Words.{bit, number}
@@ -85,12 +80,6 @@ total-more table set i t h e =
     ap (λ (u : Terms). plus u (wireAt table (getD set i 0) .terms)) e
     ∙ sym (fold-more plus none none-plus plus-none plus-assoc (λ w. w .terms) (wireAt table) set i 0 h)
 
-pub payers-more : (notion : Notion) (table set : List ℕ) (i k p : ℕ) → i < length set → k ≡ allowed notion (map (wireAt table) (take i set))
-    → p ≡ oneIf (pays notion (wireAt table (getD set i 0))) → k + p ≡ allowed notion (map (wireAt table) (take (i + 1) set))
-payers-more notion table set i k p h e paid =
-    ap₂ (λ (m q : ℕ). m + q) e paid
-    ∙ sym (fold-more _+_ 0 zero-add add-zero add-assoc (λ w. oneIf (pays notion w)) (wireAt table) set i 0 h)
-
 -- the outer wires among the first n + 1
 outers-last : (table : List ℕ) (n : ℕ)
     → outers (map (wireAt table) (upTo (n + 1))) ≡ outers (map (wireAt table) (upTo n)) ++ cond (wireAt table n .outer) (wireAt table n ∷ []) []
@@ -125,13 +114,3 @@ pub whole-table : (table : List ℕ) (i : ℕ) (t : Terms) → i ≡ wireCount t
 whole-table table i t h e =
     let w : t ≡ total (outers (wires table)) = e ∙ ap (λ (n : ℕ). total (outers (map (wireAt table) (upTo n)))) h in
     (w, sum-of-values t (outers (wires table)) w)
-
-pub whole-count : (notion : Notion) (table set : List ℕ) (i k : ℕ) → length set ≤ i → k ≡ allowed notion (map (wireAt table) (take i set))
-    → k ≡ allowed notion (map (wireAt table) set)
-whole-count notion table set i k h e = e ∙ ap (λ l. allowed notion (map (wireAt table) l)) (take-all i set h)
-
-pub ni-pays : (notion : Notion) (w : Wire) → notion ≡ Ni → 1 ≡ oneIf (pays notion w)
-ni-pays notion w e = ap (λ n. oneIf (pays n w)) (sym e)
-
-pub sni-pays : (notion : Notion) (w : Wire) (outer : Bool) → notion ≡ Sni → outer ≡ w .outer → oneIf (not outer) ≡ oneIf (pays notion w)
-sni-pays notion w outer e o = ap (λ (b : Bool). oneIf (not b)) o ∙ ap (λ n. oneIf (pays n w)) (sym e)

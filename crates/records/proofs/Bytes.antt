@@ -1,6 +1,7 @@
 -- What stands in which byte of a record, and which records a table has.
 --     Bytes                             every number of a list is a byte
 --     number-bit                        bit 8 i + j of a little-endian number is bit j of byte i
+--     within-row                        a product's column is one of a row's
 --     product-at, mask-at, share-a-at, share-b-at, outer-at     the terms of a record and its flag, byte by byte
 --     wires-none, wires-more            the wires of a table: none, or that of the first record and those of the rest
 --     inside-none, inside-more          the empty set, and one wire more
@@ -10,7 +11,7 @@ use native.Mathlib.Nat.{mod-lt, zero-lt-suc, zero-add}
 use native.Mathlib.Omega.{arith}
 use mathlib.Core.Path.{_≡_, refl, sym, _∙_, ap, ap₂, subst}
 use mathlib.Core.Logic.{_↔_}
-use mathlib.Core.Bool.{true}
+use mathlib.Core.Bool.{Bool, true, _&&_}
 use mathlib.Core.List.{List, [], _∷_, _++_, map}
 use borrow.Author.Tests.{lt-ltb}
 use lib.Dec.{eqb, ltb}
@@ -25,7 +26,6 @@ use Rattle.records.specs.Layout.{field, decode, wireAt, wireCount, wires
 use Rattle.records.proofs.Words.{bit-zero, bit-shift, bit-low}
 use Rattle.records.proofs.Fields.{byte-at}
 use Rattle.records.proofs.Adding.{set-inside}
-use Rattle.records.proofs.Shares.{within-row}
 
 -- every number of a list is a byte
 abbrev pub Bytes : List ℕ → Type 0
@@ -57,6 +57,10 @@ field-bit : (at : ℕ) (r : List ℕ) → Bytes r → (i j : ℕ) → i < 8 → 
 field-bit at r h i j k l =
     number-bit (take 8 (drop at r)) (bytes-take 8 (drop at r) (bytes-drop at r h)) i j l
     ∙ ap (λ (x : ℕ). bit x j) (getD-take 8 (drop at r) i 0 k ∙ getD-drop at r i 0)
+
+-- a product's column is one of a row's
+pub within-row : (j : ℕ) (b : Bool) → j < 8 → (ltb j 8 && b) ≡ b
+within-row j b h = ap (λ (c : Bool). c && b) (lt-ltb j 8 h)
 
 module _ (r : List ℕ) (h : Bytes r) where
   pub product-at : (i j : ℕ) → i < maxShares → j < maxShares → decode r .terms .product i j ≡ bit (getD r i 0) j

@@ -2,15 +2,10 @@
 --     bit n k            whether bit k of n is set
 --     number l           the number of the bytes l, the lowest first (little-endian)
 --     bytesOf size n     a number as so many bytes, the lowest first
---     Ones table         a table of how many ones a word has
-use Prim.Native.Nat.{ℕ, zero, suc, _+_, _*_, _/_, _%_, _^_, _<_}
-use mathlib.Core.Path.{_≡_}
+use Prim.Native.Nat.{ℕ, zero, suc, _+_, _*_, _/_, _%_, _^_}
 use mathlib.Core.Bool.{Bool}
 use mathlib.Core.List.{List, [], _∷_}
-use lib.Count.{ones}
 use lib.Dec.{eqb}
-use lib.ListN.{getD}
-use Rattle.limits.specs.Limits.{maxShares}
 
 unfoldable pub bit : ℕ → ℕ → Bool
 bit n k = eqb (n / 2 ^ k % 2) 1
@@ -22,7 +17,3 @@ number (b ∷ l) = b + 256 * number l
 abbrev pub bytesOf : ℕ → ℕ → List ℕ
 bytesOf zero n = []
 bytesOf (suc size) n = n % 256 ∷ bytesOf size (n / 256)
-
--- at each place how many ones its number has, for the words of as many bits as there are shares
-unfoldable pub Ones : List ℕ → Type 0
-Ones table = (word : ℕ) → word < 2 ^ maxShares → getD table word 0 ≡ ones word

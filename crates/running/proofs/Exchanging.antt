@@ -2,30 +2,28 @@
 --     plus-self            terms that are added twice are gone
 --     taken-out, two-sums  a sum over a set is that of a wire of it and of the others, which are the same in the next set
 --     sum-exchanged, paid-exchanged     the sum of the next set, and how many of its wires pay, from those of the set before
---     below-inside, set-inside      a set of a table's wires is inside the table
---     part                          the first wires of a buffer, as the code cuts it
 --     started-inside, started, not-started                  the walk's start
 --     next-part, slide-asks, exchange-asks, advanced, new-lowest, less-room     its step
 use Prim.Native.Nat.{ℕ, zero, suc, _+_, _-_, _≤_, _<_}
 use native.Mathlib.Nat.{add-comm, add-assoc}
 use native.Mathlib.Omega.{arith}
 use mathlib.Core.Path.{_≡_, refl, sym, _∙_, ap, ap₂, subst}
-use mathlib.Core.Bool.{Bool, true, false, cond, not, _&&_, _||_, true≢false}
+use mathlib.Core.Bool.{Bool, true, false, cond, not, _||_, true≢false}
 use mathlib.Core.List.{List, [], _∷_, _++_, map}
 use borrow.Author.Tests.{eqb-true}
-use lib.Dec.{eqb, ltb}
+use lib.Dec.{eqb}
 use lib.ListN.{length, getD, take, drop, length-map, List·getD-append}
 use lib.Seq.{take-at, length-take-le, getD-take}
 use Rattle.limits.specs.Limits.{maxWires, maxSize}
-use Rattle.basics.specs.Folds.{fold, every, oneIf}
+use Rattle.basics.specs.Folds.{fold, oneIf}
 use Rattle.basics.proofs.Folds.{fold-map}
-use Rattle.basics.proofs.Tests.{xor-self, xor-comm, and-right}
+use Rattle.basics.proofs.Tests.{xor-self, xor-comm}
 use Rattle.counts.specs.Counts.{binom}
 use Rattle.records.specs.Layout.{wireAt, wireCount, inside, termsOf}
 use Rattle.wires.specs.declared.Notion.{Notion}
 use Rattle.wires.specs.Wires.{Terms, Wire, none, plus, total, SumOfValues, pays, allowed}
 use Rattle.wires.proofs.Value.{terms-ext, plus-none, plus-assoc, sum-of-values}
-use Rattle.revolving.specs.Order.{setAt, rising, below, isSet}
+use Rattle.revolving.specs.Order.{setAt, isSet}
 use Rattle.revolving.proofs.Rising.{Chosen, isSet-parts}
 use Rattle.revolving.proofs.Revolving.{set-at-is-set}
 use Rattle.walk.specs.Neighbours.{contains, without, Exchanged, HasNext, nextSet}
@@ -35,6 +33,7 @@ use Rattle.walk.specs.Places.{room}
 use Rattle.walk.proofs.Stepping.{some-wire, next-is-set}
 use Rattle.running.specs.declared.Tally.{Tally}
 use Rattle.running.specs.Kept.{Kept}
+use Rattle.running.proofs.Inside.{is-set-inside, part}
 
 pub plus-self : (t : Terms) → plus t t ≡ none
 plus-self t =
@@ -107,23 +106,6 @@ module _ (table : List ℕ) (n x y : ℕ) (s t : List ℕ) (c : Chosen 0 n s) (d
 
 -- ---- the walk's start and its step
 
-pub below-inside : (table s : List ℕ) → below (wireCount table) s ≡ true → inside table s ≡ true
-unfolding inside
-below-inside table s e = all s ∙ e
-  where
-    all : (s : List ℕ) → every (λ wire. ltb wire (wireCount table)) s ≡ below (wireCount table) s
-    all [] = refl
-    all (x ∷ s) = ap (λ (b : Bool). ltb x (wireCount table) && b) (all s)
-
-pub set-inside : (table : List ℕ) (k : ℕ) (s : List ℕ) → isSet (wireCount table) k s ≡ true → inside table s ≡ true
-set-inside table k s e =
-    below-inside table s
-    (and-right (rising s) (below (wireCount table) s) (and-right (eqb (length s) k) (rising s && below (wireCount table) s) e))
-
--- the first wires of a buffer, as the code cuts it
-pub part : (size : ℕ) (l : List ℕ) → take (size - 0) l ≡ take size l
-part size l = let same : size - 0 ≡ size = omega arith in ap (λ (i : ℕ). take i l) same
-
 module _ (notion : Notion) (table : List ℕ) (n size rank sets : ℕ) (held old : List ℕ) (wires : n ≡ wireCount table) (counted : sets ≡ binom n size)
     (more : rank < sets) (unranked : held ≡ setAt n size rank ++ drop size old) where
   is-set : isSet n size (setAt n size rank) ≡ true
@@ -134,7 +116,7 @@ module _ (notion : Notion) (table : List ℕ) (n size rank sets : ℕ) (held old
 
   pub started-inside : inside table (take (size - 0) held) ≡ true
   started-inside =
-      set-inside table size (take (size - 0) held)
+      is-set-inside table size (take (size - 0) held)
       (ap₂ (λ (m : ℕ) (l : List ℕ). isSet m size l) (sym wires) (part size held ∙ started-set) ∙ is-set)
 
   pub started : (tally : Tally) → termsOf (tally .sum) ≡ total (map (wireAt table) (take (size - 0) held))

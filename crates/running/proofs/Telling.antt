@@ -3,16 +3,19 @@
 --     kept-breaks    what is tested of a tally says whether the set breaks
 --     next-sum, sum-at-every-set     for every number of wires and every size: a sum to which at each rank the record that is lost and the one that
 --                    is gained are added is at every set that of its records
+--     looked         what the test of its tally says of the set where a walk stands
+--     step-asks, held-next     what the step from there asks, and where it comes to
 --     walk-kept      a walk that starts right and goes from one rank to the next as promised stands at every rank at its set, with its tally
-use Prim.Native.Nat.{ℕ, zero, suc, _+_, _≤_, _<_}
-use native.Mathlib.Nat.{eq-or-lt-of-le, le-of-suc-le-suc}
-use native.Mathlib.Numerals.{add-one}
+use Prim.Native.Nat.{ℕ, _+_, _≤_, _<_}
+use native.Mathlib.Nat.{le-refl}
 use native.Mathlib.Omega.{arith}
-use mathlib.Core.Path.{_≡_, refl, _∙_, ap, ap₂, subst}
-use mathlib.Core.Logic.{_⊎_, inl, inr}
+use mathlib.Core.Path.{_≡_, refl, _∙_, ap, ap₂}
 use mathlib.Core.Bool.{Bool}
 use mathlib.Core.List.{List, map}
+use lib.ListN.{take}
+use Rattle.limits.specs.Limits.{maxShares, maxMasks}
 use Rattle.basics.specs.Folds.{parity}
+use Rattle.basics.proofs.Numbers.{from-on}
 use Rattle.counts.specs.Counts.{binom}
 use Rattle.revolving.specs.Order.{setAt}
 use Rattle.revolving.proofs.Rising.{Chosen, isSet-parts}
@@ -20,11 +23,12 @@ use Rattle.revolving.proofs.Revolving.{set-at-is-set}
 use Rattle.wires.specs.declared.Notion.{Notion}
 use Rattle.wires.specs.Wires.{Terms, Input, plus, total, value, sumBreaks, breaks}
 use Rattle.records.specs.Layout.{wireAt, termsOf}
+use Rattle.breaking.specs.Breaking.{isBreaking}
 use Rattle.walk.specs.Neighbours.{HasNext, nextSet}
 use Rattle.walk.proofs.Stepping.{has-next-at, next-at}
 use Rattle.walk.proofs.Telling.{Lost, Gained, exchanged-by}
 use Rattle.running.specs.declared.Tally.{Tally}
-use Rattle.running.specs.Kept.{Kept}
+use Rattle.running.specs.Kept.{Kept, Stands}
 use Rattle.running.proofs.Exchanging.{sum-exchanged}
 
 pub kept-value : (notion : Notion) (table set : List ℕ) (tally : Tally) → Kept notion table set tally → (n m : ℕ) (x : Input) (r : ℕ → Bool)
@@ -51,36 +55,41 @@ module _ (table : List ℕ) (n k from : ℕ) (leaves enters : ℕ → ℕ) (sum 
     (entered : (r : ℕ) → r + 1 < binom n k → Gained (setAt n k r) (setAt n k (r + 1)) (enters r))
     (added : (r : ℕ) → sum (r + 1) ≡ plus (plus (sum r) (wireAt table (leaves r) .terms)) (wireAt table (enters r) .terms)) where
   pub sum-at-every-set : (r : ℕ) → from ≤ r → r < binom n k → sum r ≡ total (map (wireAt table) (setAt n k r))
-  sum-at-every-set zero low h = let e : from ≡ 0 = omega arith in subst (λ (r : ℕ). sum r ≡ total (map (wireAt table) (setAt n k r))) e first
-  sum-at-every-set (suc r) low h = go (eq-or-lt-of-le low) (sum-at-every-set r)
+  sum-at-every-set r low h = from-on (λ (i : ℕ). sum i ≡ total (map (wireAt table) (setAt n k i))) from r first next r low (le-refl r)
     where
-      go : (from ≡ suc r) ⊎ (from < suc r) → (from ≤ r → r < binom n k → sum r ≡ total (map (wireAt table) (setAt n k r)))
-          → sum (suc r) ≡ total (map (wireAt table) (setAt n k (suc r)))
-      go (inl e) ih = subst (λ (r : ℕ). sum r ≡ total (map (wireAt table) (setAt n k r))) e first
-      go (inr p) ih =
-          let more : r + 1 < binom n k = omega arith in
-          let here = ih (le-of-suc-le-suc p) (omega arith) in
-          subst (λ (i : ℕ). sum i ≡ total (map (wireAt table) (setAt n k i))) (add-one r)
-          (added r ∙ ap (λ (t : Terms). plus (plus t (wireAt table (leaves r) .terms)) (wireAt table (enters r) .terms)) here
-          ∙ next-sum table n k r (leaves r) (enters r) more (left r more) (entered r more))
+      next : (i : ℕ) → from ≤ i → i < r → sum i ≡ total (map (wireAt table) (setAt n k i)) → sum (i + 1) ≡ total (map (wireAt table) (setAt n k (i + 1)))
+      next i at-least less here =
+          let more : i + 1 < binom n k = omega (arith, less, h) in
+          added i ∙ ap (λ (t : Terms). plus (plus t (wireAt table (leaves i) .terms)) (wireAt table (enters i) .terms)) here
+          ∙ next-sum table n k i (leaves i) (enters i) more (left i more) (entered i more)
 
--- where a walk stands
-abbrev pub At : Notion → List ℕ → ℕ → ℕ → ℕ → List ℕ → Tally → Type 0
-At notion table n k r set tally = (set ≡ setAt n k r) × Kept notion table set tally
+-- ---- where a walk stands
 
--- the sets and tallies at the ranks from `from` on, each from the one before by what `advance` promises
-module _ (notion : Notion) (table : List ℕ) (n k from : ℕ) (sets : ℕ → List ℕ) (tallies : ℕ → Tally) (first : At notion table n k from (sets from) (tallies from))
-    (goes-on : (r : ℕ) → HasNext n (sets r) → Kept notion table (sets r) (tallies r)
-    → (sets (r + 1) ≡ nextSet n (sets r)) × Kept notion table (sets (r + 1)) (tallies (r + 1))) where
-  pub walk-kept : (r : ℕ) → from ≤ r → r < binom n k → At notion table n k r (sets r) (tallies r)
-  walk-kept zero low h = let e : from ≡ 0 = omega arith in subst (λ (r : ℕ). At notion table n k r (sets r) (tallies r)) e first
-  walk-kept (suc r) low h = go (eq-or-lt-of-le low) (walk-kept r)
+module _ (notion : Notion) (table : List ℕ) (n k rank : ℕ) (held : List ℕ) (tally : Tally) (h : Stands notion table n k rank held tally) where
+  pub looked : (r : Bool) → r ≡ sumBreaks maxShares maxMasks (tally .paid) (termsOf (tally .sum)) → r ≡ isBreaking notion table maxShares maxMasks (setAt n k rank)
+  unfolding isBreaking
+  looked r e =
+      e ∙ kept-breaks notion table (take k held) tally (h .kept) maxShares maxMasks
+      ∙ ap (λ (l : List ℕ). breaks notion maxShares maxMasks (map (wireAt table) l)) (h .here)
+
+  module _ (more : rank + 1 < binom n k) where
+    pub step-asks : HasNext n (take k held) × Kept notion table (take k held) tally
+    step-asks = (has-next-at n k rank (take k held) (h .here) more, h .kept)
+
+    pub held-next : (after : List ℕ) (u : Tally) → take k after ≡ nextSet n (take k held) → Kept notion table (take k after) u
+        → Stands notion table n k (rank + 1) after u
+    held-next after u e kept = record { here = e ∙ next-at n k rank (take k held) (h .here) more; kept = kept }
+
+-- the buffers and tallies at the ranks from `from` on, each from the one before by what `advance` promises
+module _ (notion : Notion) (table : List ℕ) (n k from : ℕ) (held : ℕ → List ℕ) (tallies : ℕ → Tally) (first : Stands notion table n k from (held from) (tallies from))
+    (goes-on : (r : ℕ) → HasNext n (take k (held r)) → Kept notion table (take k (held r)) (tallies r)
+    → (take k (held (r + 1)) ≡ nextSet n (take k (held r))) × Kept notion table (take k (held (r + 1))) (tallies (r + 1))) where
+  pub walk-kept : (r : ℕ) → from ≤ r → r < binom n k → Stands notion table n k r (held r) (tallies r)
+  walk-kept r low h = from-on (λ (i : ℕ). Stands notion table n k i (held i) (tallies i)) from r first next r low (le-refl r)
     where
-      go : (from ≡ suc r) ⊎ (from < suc r) → (from ≤ r → r < binom n k → At notion table n k r (sets r) (tallies r))
-          → At notion table n k (suc r) (sets (suc r)) (tallies (suc r))
-      go (inl e) ih = subst (λ (r : ℕ). At notion table n k r (sets r) (tallies r)) e first
-      go (inr p) ih =
-          let here = ih (le-of-suc-le-suc p) (omega arith) in
-          let more : r + 1 < binom n k = omega arith in
-          let moved = goes-on r (has-next-at n k r (sets r) (here .0) more) (here .1) in
-          subst (λ (i : ℕ). At notion table n k i (sets i) (tallies i)) (add-one r) (moved .0 ∙ next-at n k r (sets r) (here .0) more, moved .1)
+      next : (i : ℕ) → from ≤ i → i < r → Stands notion table n k i (held i) (tallies i) → Stands notion table n k (i + 1) (held (i + 1)) (tallies (i + 1))
+      next i at-least less here =
+          let more : i + 1 < binom n k = omega (arith, less, h) in
+          let asks = step-asks notion table n k i (held i) (tallies i) here more in
+          let moved = goes-on i (asks .0) (asks .1) in
+          held-next notion table n k i (held i) (tallies i) here more (held (i + 1)) (tallies (i + 1)) (moved .0) (moved .1)

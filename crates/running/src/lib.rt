@@ -13,11 +13,11 @@ ghost use Rattle.revolving.specs.Order.{setAt};
 ghost use Rattle.walk.specs.Neighbours.{HasNext, nextSet};
 ghost use Rattle.walk.specs.Places.{room};
 ghost use Rattle.running.specs.Kept.{Kept};
+use breaking::pay;
 use counts::count;
 use limits::COUNTS;
 use records::sums;
 use records::sums::Sum;
-use records::sums::pay;
 use records::sums::with_wire;
 use revolving::unrank;
 use wires::Notion;
@@ -57,7 +57,7 @@ pub fn start(
     unrank(counts, wires, size, rank, probes);
     Tally {
         sum: sums::sum_of_set(table, &probes[0..size]),
-        paid: sums::payers(table, notion, &probes[0..size]),
+        paid: breaking::payers(table, notion, &probes[0..size]),
     }
 }
 

@@ -1,7 +1,6 @@
 -- The sets that a verdict and a range check look at, in the published order (scope, "Numbering and dividing"), and those of them that break.
 --     searched n t               the sets of 1 to t out of n wires, in rising size and rank
 --     stretch n k from to        the sets of k out of n wires at the ranks from `from` up to, without, `to`
---     isBreaking                 whether the wires of a set, taken from a table, break a notion
 --     breakingSets               those of a list of sets that break it, in their order
 --     first                      the first set of a list, or the empty one
 --     FirstSet                   a buffer begins with the first set of a list that passes a test, and its size is given, or 0 where none does
@@ -11,12 +10,11 @@
 use Prim.Native.Nat.{ℕ, zero, suc, _-_, _≤_, _<_}
 use mathlib.Core.Path.{_≡_}
 use mathlib.Core.Bool.{Bool, true, false}
-use mathlib.Core.List.{List, [], _∷_, _++_, map}
+use mathlib.Core.List.{List, [], _∷_, _++_}
 use lib.ListN.{length, take, drop}
 use Rattle.basics.specs.Folds.{keep}
 use Rattle.wires.specs.declared.Notion.{Notion}
-use Rattle.wires.specs.Wires.{breaks}
-use Rattle.records.specs.Layout.{wireAt}
+use Rattle.breaking.specs.Breaking.{isBreaking}
 use Rattle.counts.specs.Counts.{binom}
 use Rattle.revolving.specs.Order.{revolving, setAt}
 use Rattle.search.specs.declared.Found.{Found}
@@ -27,9 +25,6 @@ searched n (suc t) = searched n t ++ revolving n (suc t)
 
 abbrev pub stretch : ℕ → ℕ → ℕ → ℕ → List (List ℕ)
 stretch n k from to = take (to - from) (drop from (revolving n k))
-
-unfoldable pub isBreaking : Notion → List ℕ → ℕ → ℕ → List ℕ → Bool
-isBreaking notion table shares masks set = breaks notion shares masks (map (wireAt table) set)
 
 abbrev pub breakingSets : Notion → List ℕ → ℕ → ℕ → List (List ℕ) → List (List ℕ)
 breakingSets notion table shares masks = keep (isBreaking notion table shares masks)

@@ -1,89 +1,28 @@
 // The search behind verdict and range check: nested loops over size and rank, left by label with the breaking set. The first set of a size is worked
 // out from its rank; from there on the walk keeps set and tally. These functions ask what the entries have tested.
-ghost use mathlib.Core.Path.{_≡_};
-ghost use mathlib.Core.Bool.{false};
-ghost use Prim.Native.Nat.{ℕ, _≤_, _<_};
+ghost use Prim.Native.Nat.{_≤_};
 ghost use lib.ListN.{length};
-ghost use Rattle.limits.specs.Limits.{maxShares, maxMasks, maxWires, maxTableBytes, maxSize};
+ghost use Rattle.limits.specs.Limits.{maxShares, maxMasks, maxTableBytes, maxSize};
 ghost use Rattle.counts.specs.Counts.{binom, Counts};
-ghost use Rattle.revolving.specs.Order.{setAt};
-ghost use Rattle.records.specs.Words.{Ones};
+ghost use Rattle.shares.specs.Ones.{Ones};
 ghost use Rattle.records.specs.Layout.{wireCount};
-ghost use Rattle.running.specs.Kept.{Stands};
-ghost use Rattle.search.specs.Search.{searched, isBreaking, FirstSet, FirstRank, FirstFound};
+ghost use Rattle.breaking.specs.Breaking.{isBreaking};
+ghost use Rattle.search.specs.Search.{searched, FirstSet, FirstRank, FirstFound};
+use breaking::sum_breaks;
 use counts::count;
 use limits::COUNTS;
 use limits::RECORD_BYTES;
-use records::ones::WORDS;
-use records::sums::sum_breaks;
-use running::Tally;
 use running::advance;
-use running::slide;
 use running::start;
+use runs::least;
+use runs::pass_over;
+use shares::ones::WORDS;
 use wires::Notion;
-
-// Where a walk stands.
-struct Stand {
-    rank: u64,
-    tally: Tally,
-}
 
 // A breaking set by its size and rank; no size and the range's end where there is none.
 pub struct Found {
     pub size: usize,
     pub rank: u64,
-}
-
-// The smaller of two numbers.
-fn least(a: u64, b: u64) -> u64
-    ensures { λ r. ⌜ (r ≤ a) × (r ≤ b) × ((i : ℕ) → i < a → i < b → i < r) ⌝ }
-{
-    if a < b {
-        return a;
-    }
-    b
-}
-
-// Passes over sets that do not break, as long as the lowest wire alone moves, and no further than to the last rank. This is where a search spends
-// its time: what changes from set to set is at hand.
-fn pass_over(
-    table: &[u8],
-    notion: Notion,
-    wires: usize,
-    size: usize,
-    from: u64,
-    to: u64,
-    probes: &mut [u16],
-    first: Tally,
-    ones: &[u8; WORDS],
-) -> Stand
-    requires { ⌜ (wires ≡ wireCount (now table)) × (wires ≤ maxWires) × (size ≤ maxSize) × (size ≤ length (now probes)) × (from < to) × (to ≤ binom wires size) × Ones (now ones) ⌝ }
-    requires { ⌜ Stands notion (now table) wires size from (now probes) first ⌝ }
-    ensures { λ r. ⌜ (from ≤ r .rank) × (r .rank < to) ⌝ }
-    ensures { λ r. ⌜ Stands notion (now (table .entry)) wires size (r .rank) (now (probes .exit)) (r .tally) ⌝ }
-    ensures { λ r. ⌜ ((i : ℕ) → from ≤ i → i < r .rank → isBreaking notion (now (table .entry)) maxShares maxMasks (setAt wires size i) ≡ false) ⌝ }
-{
-    let mut rank = from;
-    let mut tally = first;
-    if size == 0 {
-        return Stand { rank, tally };
-    }
-    let mut lowest = probes[0] as usize;
-    let last = from
-        + least(
-            walk::steps_of_lowest(wires, &probes[0..size]) as u64,
-            to - 1 - from,
-        );
-    while rank < last {
-        if sum_breaks(ones, tally.sum, tally.paid) {
-            return Stand { rank, tally };
-        }
-        let slid = slide(table, notion, wires, size, probes, lowest, tally);
-        lowest = slid.lowest;
-        tally = slid.tally;
-        rank += 1;
-    }
-    Stand { rank, tally }
 }
 
 // The first breaking set in rising size and rank, at the start of `probes`: of the sizes from `low` to `high`, and of each size of the ranks from
@@ -134,7 +73,7 @@ pub fn first_set(table: &[u8], notion: Notion, order: usize, probes: &mut [u16])
 {
     // no size has as many sets as the largest number
     let counts = counts::table();
-    let ones = records::ones::table();
+    let ones = shares::ones::table();
     let found = first_breaking(table, &counts, notion, 1, order, 0, u64::MAX, probes, &ones);
     found.size
 }
@@ -153,7 +92,7 @@ pub fn first_rank(
     requires { ⌜ (length (now table) ≤ maxTableBytes) × (size ≤ maxSize) × (size ≤ length (now probes)) × (from ≤ to) × (to ≤ binom (wireCount (now table)) size) ⌝ }
     ensures { λ r. ⌜ FirstRank (isBreaking notion (now (table .entry)) maxShares maxMasks) (wireCount (now (table .entry))) size from to r (now (probes .exit)) ⌝ }
 {
-    let ones = records::ones::table();
+    let ones = shares::ones::table();
     let found = first_breaking(table, counts, notion, size, size, from, to, probes, &ones);
     found.rank
 }

@@ -4,7 +4,6 @@
 ghost use Prim.Native.Nat.{_≤_, _<_};
 ghost use Rattle.records.specs.Layout.{wireCount};
 use limits::RECORD_BYTES;
-use records::sums;
 use table::FunctionAnswer;
 use table::Refusal;
 use table::TableAnswer;
@@ -95,7 +94,7 @@ fn sets_of_three(table: &[u8], notion: Notion, wires: usize) -> usize
 {
     let mut count = 0;
     for i in 0..wires {
-        count = more(count, sums::set_breaks(table, notion, &[i as u16]));
+        count = more(count, breaking::set_breaks(table, notion, &[i as u16]));
         count = with_first(table, notion, wires, i, count);
     }
     count
@@ -109,7 +108,7 @@ fn with_first(table: &[u8], notion: Notion, wires: usize, i: usize, so_far: usiz
     for j in i + 1..wires {
         count = more(
             count,
-            sums::set_breaks(table, notion, &[i as u16, j as u16]),
+            breaking::set_breaks(table, notion, &[i as u16, j as u16]),
         );
         count = with_two(table, notion, wires, i, j, count);
     }
@@ -124,7 +123,7 @@ fn with_two(table: &[u8], notion: Notion, wires: usize, i: usize, j: usize, so_f
     for k in j + 1..wires {
         count = more(
             count,
-            sums::set_breaks(table, notion, &[i as u16, j as u16, k as u16]),
+            breaking::set_breaks(table, notion, &[i as u16, j as u16, k as u16]),
         );
     }
     count

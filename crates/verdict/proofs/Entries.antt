@@ -21,7 +21,8 @@ use Rattle.table.proofs.Conditions.{accepted-exactly}
 use Rattle.verdict_answers.specs.declared.Refusal.{Refusal}
 use Rattle.verdict_answers.specs.declared.Refusal.the-variants.{OrderOutOfRange, BufferTooShort}
 use Rattle.verdict_answers.specs.declared.VerdictAnswer.{VerdictAnswer}
-use Rattle.search.specs.Search.{searched, isBreaking, first, FirstSet}
+use Rattle.breaking.specs.Breaking.{isBreaking}
+use Rattle.search.specs.Search.{searched, first, FirstSet}
 use Rattle.verdict_answers.specs.Answers.{refusalNumber, verdictTold, wrongOrder, notionOf, written, firstShown, verdictOf}
 use Rattle.verdict_answers.specs.Guarantee.{Guarantee}
 use Rattle.verdict_answers.proofs.Conditions.{verdict-answered}

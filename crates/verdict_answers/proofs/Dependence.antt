@@ -23,7 +23,7 @@ use Rattle.watcher.proofs.Choice.{exceeds-leaks-a, exceeds-leaks-b, leaks-a, le
 use Rattle.records.specs.Layout.{wireAt, wireCount}
 use Rattle.table.specs.Answers.{tableCheck}
 use Rattle.table.proofs.Conditions.{accepted-exactly}
-use Rattle.search.specs.Search.{isBreaking}
+use Rattle.breaking.specs.Breaking.{isBreaking}
 use Rattle.verdict_answers.specs.declared.VerdictAnswer.{VerdictAnswer}
 use Rattle.verdict_answers.specs.declared.DependenceAnswer.{DependenceAnswer}
 use Rattle.verdict_answers.specs.Answers.{dependenceTold, notionOf, verdictOf, setDependence}

@@ -32,7 +32,8 @@ use Rattle.verdict_answers.specs.declared.Refusal.the-variants.{Table, N
 use Rattle.verdict_answers.specs.declared.RangeAnswer.{RangeAnswer}
 use Rattle.verdict_answers.specs.declared.VerdictAnswer.{VerdictAnswer}
 use Rattle.verdict_answers.specs.declared.DependenceAnswer.{DependenceAnswer}
-use Rattle.search.specs.Search.{searched, isBreaking}
+use Rattle.breaking.specs.Breaking.{isBreaking}
+use Rattle.search.specs.Search.{searched}
 use Rattle.verdict_answers.specs.Answers.{refusalNumber, verdictTold, rangeTold, dependenceTold, verdictOf, rangeCheck, setDependence}
 use Rattle.verdict_answers.specs.First.{NotAfter, VerdictFinds, RangeFinds}
 use Rattle.verdict_answers.specs.Guarantee.{Guarantee}

@@ -15,7 +15,8 @@ use Rattle.revolving.proofs.Rising.{isSet-parts}
 use Rattle.revolving.proofs.Revolving.{set-at-is-set}
 use Rattle.verdict_answers.specs.declared.VerdictAnswer.{VerdictAnswer}
 use Rattle.verdict_answers.specs.declared.RangeAnswer.{RangeAnswer}
-use Rattle.search.specs.Search.{searched, stretch, isBreaking}
+use Rattle.breaking.specs.Breaking.{isBreaking}
+use Rattle.search.specs.Search.{searched, stretch}
 use Rattle.verdict_answers.specs.Answers.{refusalNumber, verdictTold, rangeTold, notionOf, firstShown, firstRanked, verdictOf, rangeCheck}
 use Rattle.verdict_answers.specs.First.{FirstBreaking, FirstInRange, VerdictFinds, RangeFinds}
 use Rattle.verdict_answers.specs.Jobs.{found, broken, Ordered, Asked}

@@ -22,13 +22,15 @@ use Rattle.counts.specs.Counts.{binom}
 use Rattle.revolving.specs.Order.{revolving, setAt, rankOf, isSet}
 use Rattle.revolving.proofs.Rising.{isSet-parts}
 use Rattle.revolving.proofs.Revolving.{revolving-length, set-at-is-set, rank-of-set, set-of-rank}
-use Rattle.search.specs.Search.{searched, stretch, isBreaking}
+use Rattle.breaking.specs.Breaking.{isBreaking}
+use Rattle.search.specs.Search.{searched, stretch}
 use Rattle.verdict_answers.specs.Answers.{notionOf, firstShown, firstRanked, verdictOf, rangeCheck}
 use Rattle.verdict_answers.specs.Guarantee.{Watched}
 use Rattle.verdict_answers.specs.First.{NotAfter, FirstBreaking, FirstInRange}
 use Rattle.verdict_answers.specs.Jobs.{nothing, found, broken, Ordered, Asked}
 use Rattle.search.proofs.Keeping.{each-place, keep-place, none-keep, keep-none, at-place}
-use Rattle.search.proofs.Turns.{searched-none, searched-suc, rank-first}
+use Rattle.search.proofs.Ranges.{rank-first}
+use Rattle.search.proofs.Sizes.{searched-none, searched-suc}
 use Rattle.verdict_answers.proofs.Watching.{set-watched, watched-set, each-searched, all-whole}
 use Rattle.verdict_answers.proofs.Accepting.{shown-nil, shown-set, ranked-nil, ranked-set}
 use Rattle.verdict_answers.proofs.Conditions.{verdict-answered, range-answered}

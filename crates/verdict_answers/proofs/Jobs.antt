@@ -27,13 +27,14 @@ use Rattle.sets.specs.Division.{start, visited, joined}
 use Rattle.sets.proofs.Division.{start-rises, start-within, jobs-joined}
 use Rattle.sets.proofs.Conditions.{job-settled}
 use Rattle.sets.proofs.Entries.{job-told}
-use Rattle.search.specs.Search.{searched, isBreaking}
+use Rattle.breaking.specs.Breaking.{isBreaking}
+use Rattle.search.specs.Search.{searched}
 use Rattle.verdict_answers.specs.Answers.{notionOf, firstShown, firstRanked, verdictOf, rangeCheck}
 use Rattle.verdict_answers.specs.Jobs.{nothing, found, broken, Ordered, Asked, Divided, JobAnswers, AllClean, CleanBelow, FirstFound}
 use Rattle.search.proofs.Keeping.{each-place, keep-none, none-keep}
 use Rattle.verdict_answers.proofs.Accepting.{shown-nil, ranked-nil, ranked-set}
 use Rattle.verdict_answers.proofs.Conditions.{verdict-answered, range-answered}
-use Rattle.search.proofs.Turns.{first-of-size}
+use Rattle.search.proofs.Sizes.{first-of-size}
 use Rattle.verdict_answers.proofs.Watching.{of-size, each-size, each-searched}
 
 -- ---- lists joined

@@ -27,11 +27,12 @@ use Rattle.revolving.proofs.Rising.{Chosen, chosen-true, chosen-is, rising-chos
 use Rattle.revolving.proofs.Revolving.{revolving-length, set-at-is-set, set-of-rank}
 use Rattle.verdict_answers.specs.declared.Refusal.{Refusal}
 use Rattle.verdict_answers.specs.declared.VerdictAnswer.{VerdictAnswer}
-use Rattle.search.specs.Search.{searched, isBreaking}
+use Rattle.breaking.specs.Breaking.{isBreaking}
+use Rattle.search.specs.Search.{searched}
 use Rattle.verdict_answers.specs.Answers.{notionOf}
 use Rattle.verdict_answers.specs.Guarantee.{Watched, HasChoice, Shown, Guarantee}
 use Rattle.search.proofs.Keeping.{Each, each-place, at-place, each-append, each-parts, keep-first, keep-none}
-use Rattle.search.proofs.Turns.{searched-none, searched-suc}
+use Rattle.search.proofs.Sizes.{searched-none, searched-suc}
 
 -- ---- sets to watch
 

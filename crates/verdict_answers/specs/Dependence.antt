@@ -18,7 +18,7 @@ use Rattle.watcher.specs.Watcher.{ChoiceByA, ChoiceByB}
 use Rattle.records.specs.Layout.{wireAt, wireCount}
 use Rattle.revolving.specs.Order.{rising, below}
 use Rattle.table.specs.Answers.{tableCheck}
-use Rattle.search.specs.Search.{isBreaking}
+use Rattle.breaking.specs.Breaking.{isBreaking}
 use Rattle.verdict_answers.specs.declared.DependenceAnswer.{DependenceAnswer}
 use Rattle.verdict_answers.specs.Answers.{notionOf, setDependence}
 use Rattle.verdict_answers.specs.Conditions.{WrongNotion}

@@ -16,7 +16,7 @@ use Rattle.revolving.specs.Order.{setAt, rankOf}
 use Rattle.verdict_answers.specs.declared.Refusal.{Refusal}
 use Rattle.verdict_answers.specs.declared.VerdictAnswer.{VerdictAnswer}
 use Rattle.verdict_answers.specs.declared.RangeAnswer.{RangeAnswer}
-use Rattle.search.specs.Search.{isBreaking}
+use Rattle.breaking.specs.Breaking.{isBreaking}
 use Rattle.verdict_answers.specs.Answers.{notionOf}
 use Rattle.verdict_answers.specs.Guarantee.{Watched}
 

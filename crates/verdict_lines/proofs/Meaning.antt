@@ -26,7 +26,8 @@ use Rattle.watcher.proofs.Bits.{pick, pick-size, pick-map}
 use Rattle.watcher.proofs.Choice.{choice}
 use Rattle.records.specs.Layout.{wireAt, wireCount}
 use Rattle.revolving.specs.Order.{rankOf}
-use Rattle.search.specs.Search.{searched, isBreaking}
+use Rattle.breaking.specs.Breaking.{isBreaking}
+use Rattle.search.specs.Search.{searched}
 use Rattle.verdict_answers.specs.Answers.{notionOf, written, firstShown, setDependence}
 use Rattle.verdict_answers.specs.Guarantee.{Watched, HasChoice}
 use Rattle.verdict_answers.specs.First.{NotAfter, FirstBreaking}

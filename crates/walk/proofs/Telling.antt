@@ -41,26 +41,29 @@ just-gained {s = s} {t = t} e z = (
   (λ p. (ap (λ (i : ℕ). contains i t) p ∙ e .come, ap (λ (i : ℕ). contains i s) p ∙ e .fresh)),
 )
 
-pub one-lost-one-gained : (n k r : ℕ) → r + 1 < binom n k → (x : ℕ) × (y : ℕ) × Lost (setAt n k r) (setAt n k (r + 1)) x × Gained (setAt n k r) (setAt n k (r + 1)) y
-one-lost-one-gained n k r h =
+-- the next rank as the law writes it
+exchanged-at : (n k r : ℕ) → r + 1 < binom n k → (x : ℕ) × (y : ℕ) × Exchanged (setAt n k r) (setAt n k (r + 1)) x y
+exchanged-at n k r h =
     let one = add-one r in
-    let both = neighbours n k r (subst (λ (i : ℕ). i < binom n k) one h) in
-    let e : Exchanged (setAt n k r) (setAt n k (r + 1)) (both .leaves) (both .enters) =
-    subst (λ (i : ℕ). Exchanged (setAt n k r) (setAt n k i) (both .leaves) (both .enters)) (sym one) (both .exchanged) in
-    (both .leaves, both .enters, just-lost e, just-gained e)
+    let both = neighbours n k r (subst (λ (i : ℕ). i < binom n k) one h) in (
+      both .leaves,
+      both .enters,
+      subst (λ (i : ℕ). Exchanged (setAt n k r) (setAt n k i) (both .leaves) (both .enters)) (sym one) (both .exchanged),
+    )
+
+pub one-lost-one-gained : (n k r : ℕ) → r + 1 < binom n k → (x : ℕ) × (y : ℕ) × Lost (setAt n k r) (setAt n k (r + 1)) x × Gained (setAt n k r) (setAt n k (r + 1)) y
+one-lost-one-gained n k r h = let both = exchanged-at n k r h in (both .0, both .1, just-lost (both .2), just-gained (both .2))
 
 -- so what is lost and what is gained are the two of an exchange
 pub exchanged-by : (n k r x y : ℕ) → r + 1 < binom n k → Lost (setAt n k r) (setAt n k (r + 1)) x → Gained (setAt n k r) (setAt n k (r + 1)) y
     → Exchanged (setAt n k r) (setAt n k (r + 1)) x y
 exchanged-by n k r x y h lost-is gained-is =
-    let one = add-one r in
-    let both = neighbours n k r (subst (λ (i : ℕ). i < binom n k) one h) in
-    let e : Exchanged (setAt n k r) (setAt n k (r + 1)) (both .leaves) (both .enters) =
-    subst (λ (i : ℕ). Exchanged (setAt n k r) (setAt n k i) (both .leaves) (both .enters)) (sym one) (both .exchanged) in
-    let same : both .leaves ≡ x = lost-is (both .leaves) .0 (e .was, e .gone) in
-    let also : both .enters ≡ y = gained-is (both .enters) .0 (e .come, e .fresh) in
+    let both = exchanged-at n k r h in
+    let e = both .2 in
+    let same : both .0 ≡ x = lost-is (both .0) .0 (e .was, e .gone) in
+    let also : both .1 ≡ y = gained-is (both .1) .0 (e .come, e .fresh) in
     subst (λ (i : ℕ). Exchanged (setAt n k r) (setAt n k (r + 1)) i y) same
-    (subst (λ (j : ℕ). Exchanged (setAt n k r) (setAt n k (r + 1)) (both .leaves) j) also e)
+    (subst (λ (j : ℕ). Exchanged (setAt n k r) (setAt n k (r + 1)) (both .0) j) also e)
 
 -- the set at a rank, and what the step promises of it
 module _ (n k r : ℕ) (s t : List ℕ) (x y : ℕ) (here : s ≡ setAt n k r) (more : r + 1 < binom n k) (next : t ≡ nextSet n s) (e : Exchanged s t x y) where

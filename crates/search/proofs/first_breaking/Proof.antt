@@ -10,8 +10,10 @@ use borrow.Author.Needs.{needs}
 use Rattle.limits.specs.Limits.{maxShares, maxMasks}
 use Rattle.records.specs.Layout.{wireCount}
 use Rattle.running.specs.Kept.{Stands}
-use Rattle.search.specs.Search.{isBreaking}
-use Rattle.search.proofs.Turns.{held-first, looked, step-asks, held-next, Clean, clean-start, clean-next, clean-join, Smaller, smaller-start, smaller-next, nothing-found, something-found}
+use Rattle.breaking.specs.Breaking.{isBreaking}
+use Rattle.running.proofs.Telling.{looked, step-asks, held-next}
+use Rattle.runs.proofs.Clean.{Clean, clean-start, clean-next, clean-join}
+use Rattle.search.proofs.Turns.{held-first, Smaller, smaller-start, smaller-next, nothing-found, something-found}
 use Rattle.search.proofs.first_breaking.Statement.{statement}
 use Rattle.search.proofs.first_breaking.Tie as tie
 

@@ -1,7 +1,7 @@
 -- `search::first_rank` meets its contract: the search is of one size.
 -- Assumes nothing.
 use borrow.Author.Needs.{needs}
-use Rattle.search.proofs.Turns.{range-told}
+use Rattle.search.proofs.Ranges.{range-told}
 use Rattle.search.proofs.first_rank.Statement.{statement}
 use Rattle.search.proofs.first_rank.Tie as tie
 

@@ -3,7 +3,7 @@
 use native.Mathlib.Omega.{arith}
 use borrow.Author.Needs.{needs}
 use Rattle.counts.proofs.Binomial.{counts-fit}
-use Rattle.search.proofs.Turns.{sizes-told}
+use Rattle.search.proofs.Sizes.{sizes-told}
 use Rattle.search.proofs.first_set.Statement.{statement}
 use Rattle.search.proofs.first_set.Tie as tie
 
