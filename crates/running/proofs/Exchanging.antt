@@ -30,7 +30,7 @@ use Rattle.walk.specs.Neighbours.{contains, without, Exchanged, HasNext, nextSe
 use Rattle.walk.proofs.Exchanges.{without-none}
 use Rattle.walk.proofs.Climbing.{chosen, chosen-away, chosen-has}
 use Rattle.walk.specs.Places.{room}
-use Rattle.walk.proofs.Stepping.{some-wire, next-is-set}
+use Rattle.walk.proofs.Sets.{some-wire, next-is-set}
 use Rattle.running.specs.declared.Tally.{Tally}
 use Rattle.running.specs.Kept.{Kept}
 use Rattle.running.proofs.Inside.{is-set-inside, part}

@@ -25,7 +25,7 @@ use Rattle.wires.specs.Wires.{Terms, Input, plus, total, value, sumBreaks, brea
 use Rattle.records.specs.Layout.{wireAt, termsOf}
 use Rattle.breaking.specs.Breaking.{isBreaking}
 use Rattle.walk.specs.Neighbours.{HasNext, nextSet}
-use Rattle.walk.proofs.Stepping.{has-next-at, next-at}
+use Rattle.walk.proofs.Sets.{has-next-at, next-at}
 use Rattle.walk.proofs.Telling.{Lost, Gained, exchanged-by}
 use Rattle.running.specs.declared.Tally.{Tally}
 use Rattle.running.specs.Kept.{Kept, Stands}

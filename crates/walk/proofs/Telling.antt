@@ -20,7 +20,7 @@ use Rattle.walk.specs.Neighbours.{contains, Exchanged, nextSet}
 use Rattle.walk.proofs.Exchanges.{lost, gained, kept, exchanged-once}
 use Rattle.walk.proofs.Neighbours.{neighbours}
 use Rattle.walk.proofs.Climbing.{chosen, chosen-has}
-use Rattle.walk.proofs.Stepping.{next-is-set, has-next-at, next-at}
+use Rattle.walk.proofs.Sets.{next-is-set, has-next-at, next-at}
 
 -- the wires of s that t has not are x alone
 abbrev pub Lost : List ℕ → List ℕ → ℕ → Type 0

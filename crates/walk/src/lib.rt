@@ -50,20 +50,16 @@ fn climb(wires: usize, set: &mut [u16]) -> Exchange
                     enters: below,
                 };
             }
-            rising = false;
-            below = place;
-        } else {
-            if wire + 1 < limit(wires, set, place) {
-                set[below] = wire as u16;
-                set[place] = (wire + 1) as u16;
-                return Exchange {
-                    leaves: below,
-                    enters: wire + 1,
-                };
-            }
-            rising = true;
-            below = place;
+        } else if wire + 1 < limit(wires, set, place) {
+            set[below] = wire as u16;
+            set[place] = (wire + 1) as u16;
+            return Exchange {
+                leaves: below,
+                enters: wire + 1,
+            };
         }
+        rising = !rising;
+        below = place;
     }
     // not reached: the set would be the last
     Exchange {

@@ -1,11 +1,13 @@
 -- `walk::climb` meets its contract: before each turn the wires up to the place below are blocked in their direction.
 -- Assumes nothing.
 use Prim.Native.Nat.{_+_, _-_, _<_}
+use mathlib.Core.Logic.{⊎-elim}
 use mathlib.Core.Path.{_≡_, refl}
 use native.Mathlib.Omega.{arith}
 use borrow.Author.Needs.{needs}
 use lib.ListN.{length}
-use Rattle.walk.proofs.Stepping.{Climbing, climbing-start, turn-rises, turn-falls, turn-high, turn-low, never-last, wire-below}
+use Rattle.walk.proofs.Stepping.{Climbing, climbing-start, turn-rises, turn-falls, turn-high, turn-low, never-last}
+use Rattle.walk.proofs.Sets.{wire-below}
 use Rattle.walk.proofs.climb.Statement.{statement}
 use Rattle.walk.proofs.climb.Tie as tie
 
@@ -60,12 +62,6 @@ same-length c = search needs
 returns : tie.Need-returns Inv-loop μ-loop
 returns c = turn-falls _ _ _ _ _ (c .before .before .before .before .before .loop .inv .0) (c .before .before .before .before .loop-test .taken) (c .before .before .if1 .taken) (c .before .if2 .taken)
 
-loop-less : tie.Need-loop-less Inv-loop μ-loop
-loop-less c = search needs
-
-loop-again : tie.Need-loop-again Inv-loop μ-loop
-loop-again c = (turn-low _ _ _ _ _ (c .before .before .before .before .loop .inv .0) (c .before .before .before .loop-test .taken) (c .before .if1 .taken) (c .if2 .left), c .before .before .before .before .loop .inv .1, c .before .before .before .loop-test .taken)
-
 add-if3 : tie.Need-add-if3 Inv-loop μ-loop
 add-if3 c = omega (arith, c .before .slice-known2 .given (c .before .before .before .loop .below + 1))
 
@@ -102,11 +98,17 @@ same-length-2 c = search needs
 returns-2 : tie.Need-returns-2 Inv-loop μ-loop
 returns-2 c = turn-rises _ _ _ _ _ (c .before .before .before .before .before .before .loop .inv .0) (c .before .before .before .before .before .loop-test .taken) (c .before .before .before .if1 .left) _ (c .before .limit .ensures) (c .if3 .taken)
 
-loop-less-2 : tie.Need-loop-less-2 Inv-loop μ-loop
-loop-less-2 c = search needs
+loop-less : tie.Need-loop-less Inv-loop μ-loop
+loop-less c = search needs
 
-loop-again-2 : tie.Need-loop-again-2 Inv-loop μ-loop
-loop-again-2 c = (turn-high _ _ _ _ _ (c .before .before .before .before .before .before .loop .inv .0) (c .before .before .before .before .before .loop-test .taken) (c .before .before .before .if1 .left) _ (c .before .limit .ensures) (c .if3 .left), c .before .before .before .before .before .before .loop .inv .1, c .before .before .before .before .before .loop-test .taken)
+loop-again : tie.Need-loop-again Inv-loop μ-loop
+loop-again c =
+    let l = c .before .before .before .loop .inv in
+    let more = c .before .before .loop-test .taken in (
+      ⊎-elim (λ w. turn-low _ _ _ _ _ (l .0) more (w .0 .taken) (w .1 .left)) (λ w. turn-high _ _ _ _ _ (l .0) more (w .0 .left) _ (w .2 .ensures) (w .3 .left)) (c .if1 .came),
+      l .1,
+      more,
+    )
 
 same-length-3 : tie.Need-same-length-3 Inv-loop μ-loop
 same-length-3 c = search needs
@@ -135,8 +137,6 @@ climb-spec =
     slice-write-set-2
     same-length
     returns
-    loop-less
-    loop-again
     add-if3
     limit-requires
     cast-set-2
@@ -149,7 +149,7 @@ climb-spec =
     add-t27
     same-length-2
     returns-2
-    loop-less-2
-    loop-again-2
+    loop-less
+    loop-again
     same-length-3
     returns-3)

@@ -3,7 +3,7 @@
 use Prim.Native.Nat.{_+_}
 use native.Mathlib.Omega.{arith}
 use borrow.Author.Needs.{needs}
-use Rattle.walk.proofs.Stepping.{limit-here, limit-none}
+use Rattle.walk.proofs.Sliding.{limit-here, limit-none}
 use Rattle.walk.proofs.limit.Statement.{statement}
 use Rattle.walk.proofs.limit.Tie as tie
 

@@ -3,7 +3,8 @@
 use native.Mathlib.Omega.{arith}
 use borrow.Author.Needs.{needs}
 use borrow.Author.Tests.{eq-eqb, ne-eqb}
-use Rattle.walk.proofs.Stepping.{some-wire, wire-below, room-even, slid-up, slid-down}
+use Rattle.walk.proofs.Sets.{some-wire, wire-below}
+use Rattle.walk.proofs.Sliding.{room-even, slid-up, slid-down}
 use Rattle.walk.proofs.slide.Statement.{statement}
 use Rattle.walk.proofs.slide.Tie as tie
 

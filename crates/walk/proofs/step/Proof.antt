@@ -3,7 +3,8 @@
 use native.Mathlib.Omega.{arith}
 use mathlib.Core.Path.{refl}
 use borrow.Author.Needs.{needs}
-use Rattle.walk.proofs.Stepping.{some-wire, more-room, no-room}
+use Rattle.walk.proofs.Sets.{some-wire}
+use Rattle.walk.proofs.Sliding.{more-room, no-room}
 use Rattle.walk.proofs.step.Statement.{statement}
 use Rattle.walk.proofs.step.Tie as tie
 

@@ -4,7 +4,7 @@ use native.Mathlib.Omega.{arith}
 use mathlib.Core.Path.{sym}
 use borrow.Author.Needs.{needs}
 use borrow.Author.Tests.{eq-eqb, ne-eqb}
-use Rattle.walk.proofs.Stepping.{room-even, room-read, below-limit}
+use Rattle.walk.proofs.Sliding.{room-even, room-read, below-limit}
 use Rattle.walk.proofs.steps_of_lowest.Statement.{statement}
 use Rattle.walk.proofs.steps_of_lowest.Tie as tie
 
