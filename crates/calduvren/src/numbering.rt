@@ -1,7 +1,8 @@
 // The numbering of wire sets and the jobs of a division.
 ghost use mathlib.Core.Path.{_≡_};
 ghost use mathlib.Core.List.{[], _∷_};
-ghost use Rattle.sets.specs.Answers.{setCount, setFromRank, rankFromSet, jobRanks};
+ghost use Rattle.sets.specs.Answers.{setCount, setFromRank, rankFromSet};
+ghost use Rattle.division.specs.Answers.{jobRanks};
 ghost use Rattle.call_answers.specs.Calls.{got, answered, lentAnswered};
 ghost use Rattle.call_answers.specs.Meaning.{Kept, CountSays, SetSays, RankSays, JobSays};
 

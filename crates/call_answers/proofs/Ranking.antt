@@ -11,15 +11,17 @@ use mathlib.Core.List.{List, [], _∷_, _++_}
 use lib.ListN.{take, drop}
 use Rattle.basics.specs.Told.{Lent, values, refusal}
 use Rattle.basics.proofs.Conditions.{own-told}
-use Rattle.sets.proofs.Conditions.{count-chain, set-chain, rank-chain, job-chain, set-settled}
+use Rattle.sets.proofs.Conditions.{count-chain, set-chain, rank-chain, set-settled}
+use Rattle.division.proofs.Conditions.{job-chain}
 use Rattle.counts.specs.Counts.{binom}
 use Rattle.sets.specs.declared.Refusal.{Refusal}
 use Rattle.sets.specs.declared.CountAnswer.{CountAnswer}
 use Rattle.sets.specs.declared.SetAnswer.{SetAnswer}
 use Rattle.sets.specs.declared.RankAnswer.{RankAnswer}
-use Rattle.sets.specs.declared.JobAnswer.{JobAnswer}
+use Rattle.division.specs.declared.JobAnswer.{JobAnswer}
 use Rattle.revolving.specs.Order.{setAt}
-use Rattle.sets.specs.Answers.{refusalNumber, countTold, setTold, rankTold, jobTold, setCount, setFromRank, rankFromSet, jobRanks}
+use Rattle.sets.specs.Answers.{refusalNumber, countTold, setTold, rankTold, setCount, setFromRank, rankFromSet}
+use Rattle.division.specs.Answers.{jobTold, jobRanks}
 use Rattle.revolving.proofs.Rising.{isSet-parts}
 use Rattle.revolving.proofs.Revolving.{set-at-is-set}
 use Rattle.verdict_answers.specs.Answers.{written}

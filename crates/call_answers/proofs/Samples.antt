@@ -20,7 +20,8 @@ use Rattle.records.specs.Words.{bit}
 use Rattle.counts.specs.Counts.{binom}
 use Rattle.counts.proofs.Rows.{binom-row}
 use Rattle.revolving.specs.Order.{revolving}
-use Rattle.sets.specs.Answers.{setCount, setFromRank, rankFromSet, jobRanks}
+use Rattle.sets.specs.Answers.{setCount, setFromRank, rankFromSet}
+use Rattle.division.specs.Answers.{jobRanks}
 use Rattle.table.specs.Answers.{functionCheck}
 use Rattle.table.proofs.Examples.{tableA, tableB, tableC}
 use Rattle.breaking.specs.Breaking.{isBreaking}

@@ -29,7 +29,7 @@ use Rattle.wires.specs.Dependence.{SetDepends}
 use Rattle.records.specs.Layout.{wireAt, wireCount, wires}
 use Rattle.counts.specs.Counts.{binom}
 use Rattle.revolving.specs.Order.{setAt, rankOf}
-use Rattle.sets.specs.Division.{start}
+use Rattle.division.specs.Division.{start}
 use Rattle.table.specs.Answers.{tableCheck}
 use Rattle.verdict_answers.specs.Answers.{notionOf}
 use Rattle.breaking.specs.Breaking.{isBreaking}

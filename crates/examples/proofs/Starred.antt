@@ -19,7 +19,7 @@ use Rattle.records.specs.Words.{bit}
 use Rattle.counts.specs.Counts.{binom}
 use Rattle.counts.proofs.Rows.{binom-row}
 use Rattle.revolving.specs.Order.{revolving}
-use Rattle.sets.specs.Division.{start}
+use Rattle.division.specs.Division.{start}
 use Rattle.sets.proofs.Examples.{rank-one-of-pairs}
 use Rattle.description.specs.Header.{orderLine, masksLine, namesFrom}
 use Rattle.description.specs.Listing.{encode}

@@ -24,7 +24,8 @@ use Rattle.basics.specs.Told.{Told, values, refusal}
 use Rattle.records.specs.Layout.{wireAt}
 use Rattle.counts.specs.Counts.{binom}
 use Rattle.wires.specs.declared.Notion.{Notion}
-use Rattle.sets.specs.Answers.{setCount, setFromRank, rankFromSet, jobRanks}
+use Rattle.sets.specs.Answers.{setCount, setFromRank, rankFromSet}
+use Rattle.division.specs.Answers.{jobRanks}
 use Rattle.sets.specs.Visits.{SetTells}
 use Rattle.breaking.specs.Breaking.{isBreaking}
 use Rattle.verdict_answers.specs.Answers.{rangeCheck, setDependence}

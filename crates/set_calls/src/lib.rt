@@ -1,11 +1,12 @@
 // The numbering of wire sets and the jobs of a division.
 ghost use mathlib.Core.Path.{_≡_};
 ghost use mathlib.Core.List.{[], _∷_};
-ghost use Rattle.sets.specs.Answers.{setCount, setFromRank, rankFromSet, jobRanks};
+ghost use Rattle.sets.specs.Answers.{setCount, setFromRank, rankFromSet};
+ghost use Rattle.division.specs.Answers.{jobRanks};
 ghost use Rattle.call_answers.specs.Calls.{got, answered, lentAnswered};
 ghost use Rattle.call_answers.specs.Meaning.{Kept, CountSays, SetSays, RankSays, JobSays};
+use division::JobAnswer;
 use sets::CountAnswer;
-use sets::JobAnswer;
 use sets::RankAnswer;
 use sets::SetAnswer;
 
@@ -60,7 +61,7 @@ pub fn job(wires: usize, size: usize, job: u64, jobs: u64, from: &mut u64, to: &
     ensures { λ r. ⌜ Kept r (now (from .exit) ∷ now (to .exit) ∷ []) (now (from .entry) ∷ now (to .entry) ∷ []) [] [] ⌝ }
     ensures { λ r. ⌜ JobSays r (now (from .exit)) (now (to .exit)) wires size job jobs ⌝ }
 {
-    let answer = sets::job(wires, size, job, jobs);
+    let answer = division::job(wires, size, job, jobs);
     match answer {
         JobAnswer::Refused(why) => why.number(),
         JobAnswer::Ranks {

@@ -1,7 +1,7 @@
 -- Which call gets which number: each entry of `sets` tells a refusal exactly when its condition is the first that holds, values exactly when none does.
 --     rising-fails, below-fails                 the tests of a set decide
---     count-chain, set-chain, rank-chain, job-chain     the entries' tests, and their own answers
---     count-settled, set-settled, rank-settled, job-settled     the entries, for all arguments
+--     count-chain, set-chain, rank-chain     the entries' tests, and their own answers
+--     count-settled, set-settled, rank-settled     the entries, for all arguments
 use Prim.Native.Nat.{ℕ, zero, suc, _≤_, _<_, suc-le-suc}
 use native.Mathlib.Nat.{le-of-suc-le-suc, not-suc-le-zero}
 use native.Mathlib.Omega.{arith}
@@ -15,12 +15,11 @@ use lib.ListN.{length, drop, getD}
 use Rattle.limits.specs.Limits.{maxWires, maxSize}
 use Rattle.basics.specs.Told.{Lent, values, refusal, turnedDown}
 use Rattle.basics.specs.Conditions.{Settles, SettlesLent}
-use Rattle.basics.proofs.Conditions.{Chain, own, test, settles-told, settles-lent, less, least, equal, one-of-three, not-both}
+use Rattle.basics.proofs.Conditions.{Chain, own, test, settles-told, settles-lent, less, least, not-both}
 use Rattle.counts.specs.Counts.{binom}
 use Rattle.revolving.specs.Order.{setAt, rankOf, rising, below}
-use Rattle.sets.specs.Division.{start}
-use Rattle.sets.specs.Answers.{setCount, setFromRank, rankFromSet, jobRanks}
-use Rattle.sets.specs.Conditions.{countConditions, setConditions, Falls, Beyond, rankConditions, jobConditions}
+use Rattle.sets.specs.Answers.{setCount, setFromRank, rankFromSet}
+use Rattle.sets.specs.Conditions.{countConditions, setConditions, Falls, Beyond, rankConditions}
 
 and-fails : (a b : Bool) → (a && b) ≡ false → (a ≡ false) ⊎ (b ≡ false)
 and-fails true b e = inr e
@@ -93,20 +92,6 @@ module _ (wires size : ℕ) where
 
     pub set-settled : SettlesLent (setConditions wires size rank buffer) buffer (setFromRank wires size rank buffer)
     set-settled = settles-lent set-chain [] refl
-
-  module _ (job jobs : ℕ) where
-    abbrev pub bounds : List ℕ
-    bounds = start (binom wires size) jobs job ∷ start (binom wires size) jobs (suc job) ∷ []
-
-    pub job-chain : Chain refusal (values bounds) (jobConditions wires size job jobs) (jobRanks wires size job jobs)
-    job-chain =
-        test 12 (less maxWires wires)
-        (test 17 (less maxSize size)
-        (test 19 (one-of-three (equal jobs 0) (less 65536 jobs) (least jobs job))
-        (own refusal (values bounds))))
-
-    pub job-settled : Settles (jobConditions wires size job jobs) (jobRanks wires size job jobs)
-    job-settled = settles-told job-chain
 
 module _ (wires : ℕ) (set : List ℕ) where
   pub rank-chain : Chain refusal (values (rankOf wires set ∷ [])) (rankConditions wires set) (rankFromSet wires set)

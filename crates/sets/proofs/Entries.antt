@@ -1,50 +1,31 @@
 -- What the entries tell, for all that they accept.
 --     count-told      the set count is the number of sets in the published list
---     job-told, at-told     what `job` and `set_from_rank` tell within the limits
---     told-once       every set is visited by exactly one job that `job` tells, at exactly one rank for which `set_from_rank` writes it
+--     at-told         what `set_from_rank` tells within the limits
+--     told-at         the set that it writes for a rank is the one at it
 --     rank-and-set    `rank_from_set` tells r of s exactly when `set_from_rank` writes s for r
-use Prim.Native.Nat.{ℕ, suc, _≤_, _<_}
+use Prim.Native.Nat.{ℕ, _≤_, _<_}
 use native.Mathlib.Omega.{arith}
 use mathlib.Core.Path.{_≡_, refl, sym, _∙_, ap, subst}
-use mathlib.Core.Logic.{_↔_, inr}
+use mathlib.Core.Logic.{_↔_}
 use mathlib.Core.Bool.{Bool, true, false, not, _&&_}
 use mathlib.Core.List.{List, [], _∷_, _++_, append-nil}
-use borrow.Author.Tests.{le-ltb, lt-leb, ne-eqb}
+use borrow.Author.Tests.{le-ltb, lt-leb}
 use lib.Dec.{eqb}
 use lib.ListN.{length, drop, replicate, length-replicate, drop-of-length-le}
 use Rattle.limits.specs.Limits.{maxWires, maxSize}
 use Rattle.basics.specs.Told.{Lent, values}
 use Rattle.counts.specs.Counts.{binom}
 use Rattle.basics.proofs.Tests.{and-right}
-use Rattle.basics.proofs.Conditions.{own-told, not-both}
-use Rattle.sets.proofs.Conditions.{rising-fails, below-fails, job-chain, job-settled, set-settled, rank-settled}
+use Rattle.basics.proofs.Conditions.{not-both}
+use Rattle.sets.proofs.Conditions.{rising-fails, below-fails, set-settled, rank-settled}
 use Rattle.revolving.specs.Order.{revolving, setAt, rankOf, rising, below, isSet}
-use Rattle.sets.specs.Division.{start, HasRank, ExactlyOne}
-use Rattle.sets.specs.Answers.{maxJobs, setCount, jobRanks}
-use Rattle.sets.specs.Visits.{JobTells, SetTells, RankTells}
+use Rattle.sets.specs.Answers.{setCount}
+use Rattle.sets.specs.Visits.{SetTells, RankTells}
 use Rattle.revolving.proofs.Rising.{isSet-parts, parts-isSet}
 use Rattle.revolving.proofs.Revolving.{revolving-length, set-at-is-set, set-of-rank, rank-unique}
-use Rattle.sets.proofs.Division.{visited-once, rank-counted}
 
 pub count-told : (n k : ℕ) → n ≤ maxWires → k ≤ maxSize → setCount n k ≡ values (length (revolving n k) ∷ [])
 count-told n k a b = simp (le-ltb maxWires n a, le-ltb maxSize k b, revolving-length n k)
-
--- a job's ranks, as told
-module _ (n k jobs : ℕ) (a : n ≤ maxWires) (b : k ≤ maxSize) (some : 0 < jobs) (c : jobs ≤ maxJobs) where
-  pub job-told : (i : ℕ) → i < jobs → jobRanks n k i jobs ≡ values (start (binom n k) jobs i ∷ start (binom n k) jobs (suc i) ∷ [])
-  job-told i d = simp (le-ltb maxWires n a, le-ltb maxSize k b, ne-eqb jobs 0 (omega arith), le-ltb maxJobs jobs c, lt-leb jobs i d)
-
-  has-told : (i r : ℕ) → HasRank (binom n k) jobs i r → JobTells n k jobs i r
-  has-told i r h = record { from = start (binom n k) jobs i; to = start (binom n k) jobs (suc i); told = job-told i (h .inside); low = h .from; high = h .to }
-
-  told-has : (i r : ℕ) → JobTells n k jobs i r → HasRank (binom n k) jobs i r
-  told-has i r t =
-      let none = job-settled n k i jobs .answered .0 (t .from ∷ t .to ∷ [], t .told) in
-      let late : jobs ≤ i → ⊥ = λ h. none .1 .1 .0 (inr (inr h)) in
-      let same = own-told (job-chain n k i jobs) (t .from ∷ t .to ∷ []) (t .told) in
-      let e : t .from ≡ start (binom n k) jobs i = cc in
-      let f : t .to ≡ start (binom n k) jobs (suc i) = cc in
-      record { inside = omega arith; from = omega (arith, t .low); to = omega (arith, t .high) }
 
 -- the set of a rank, as told
 module _ (n k : ℕ) (a : n ≤ maxWires) (b : k ≤ maxSize) where
@@ -64,23 +45,11 @@ module _ (n k : ℕ) (a : n ≤ maxWires) (b : k ≤ maxSize) where
       let late : binom n k ≤ r → ⊥ = none .1 .1 .1 .0 in
       omega arith
 
-  told-at : (r : ℕ) (s : List ℕ) → SetTells n k r s → setAt n k r ≡ s
+  pub told-at : (r : ℕ) (s : List ℕ) → SetTells n k r s → setAt n k r ≡ s
   told-at r s t =
       let e = ap (λ (l : Lent). l .held) (sym (at-told r (told-counted r s t) filled room) ∙ t filled room) in
       let none : drop k filled ≡ [] = drop-of-length-le filled {i = k} (omega (arith, length-replicate {A = ℕ} k 0)) in
       sym (append-nil (setAt n k r)) ∙ ap (λ (l : List ℕ). setAt n k r ++ l) (sym none) ∙ e ∙ ap (λ (l : List ℕ). s ++ l) none ∙ append-nil s
-
-pub told-once : (n k jobs : ℕ) → n ≤ maxWires → k ≤ maxSize → 0 < jobs → jobs ≤ maxJobs → (s : List ℕ) → isSet n k s ≡ true → ExactlyOne (JobTells n k jobs) (λ r. SetTells n k r s)
-told-once n k jobs a b some c s e =
-    let once = visited-once n k jobs some s e in
-    let counted = rank-counted (binom n k) jobs (once .job) (once .rank) some (once .visits) in
-    record {
-      job = once .job;
-      rank = once .rank;
-      visits = has-told n k jobs a b some c (once .job) (once .rank) (once .visits);
-      here = subst (SetTells n k (once .rank)) (once .here) (at-told n k a b (once .rank) counted);
-      only = λ i r p q. once .only i r (told-has n k jobs a b some c i r p) (told-at n k a b r s q);
-    }
 
 -- the rank of a set, as told
 module _ (n : ℕ) (s : List ℕ) (a : n ≤ maxWires) (b : length s ≤ maxSize) where

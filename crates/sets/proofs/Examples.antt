@@ -1,5 +1,5 @@
 -- The scope's examples on numbering, and every refusal, from the definitions that the contracts cite.
-use Prim.Native.Nat.{ℕ, _*_, _/_, _%_, _^_, _≤_}
+use Prim.Native.Nat.{ℕ, _≤_}
 use native.Mathlib.Omega.{arith}
 use mathlib.Core.Path.{_≡_, refl, ap, subst, _∙_}
 use mathlib.Core.List.{List, [], _∷_, map}
@@ -9,15 +9,13 @@ use Rattle.counts.specs.Counts.{binom}
 use Rattle.counts.proofs.Rows.{binom-row}
 use Rattle.counts.proofs.Binomial.{binom-wider}
 use Rattle.revolving.specs.Order.{revolving, setAt}
-use Rattle.sets.specs.Division.{start}
 use Rattle.basics.specs.Told.{values, refusal, turnedDown}
-use Rattle.sets.specs.Answers.{refusalNumber, countTold, setTold, rankTold, jobTold, setCount, setFromRank, rankFromSet, jobRanks}
+use Rattle.sets.specs.Answers.{refusalNumber, countTold, setTold, rankTold, setCount, setFromRank, rankFromSet}
 use Rattle.sets.specs.declared.Refusal.{Refusal}
 use Rattle.sets.specs.declared.Refusal.the-variants.{TooManyWires, SizeTooLarge, BufferTooShort, RankTooLarge, NoSuchJob, NotASet}
 use Rattle.sets.specs.declared.CountAnswer.{CountAnswer}
 use Rattle.sets.specs.declared.SetAnswer.{SetAnswer}
 use Rattle.sets.specs.declared.RankAnswer.{RankAnswer}
-use Rattle.sets.specs.declared.JobAnswer.{JobAnswer}
 use Rattle.sets.specs.Visits.{SetTells}
 use Rattle.revolving.proofs.Revolving.{set-at-wider}
 use Rattle.sets.proofs.Entries.{at-told}
@@ -45,22 +43,11 @@ pub pairs-of-24 : setCount 24 2 ≡ values (276 ∷ [])
 unfolding binom
 pairs-of-24 = refl
 
-pub job-three-of-seven : jobRanks 24 2 3 7 ≡ values (118 ∷ 157 ∷ [])
-unfolding binom
-job-three-of-seven = refl
-
-fours : binom 512 4 ≡ 2829877120
+pub fours : binom 512 4 ≡ 2829877120
 fours = binom-row 512 4 (omega arith)
 
 pub fours-of-512 : setCount 512 4 ≡ values (2829877120 ∷ [])
 fours-of-512 = ap (λ (all : ℕ). values (all ∷ [])) fours
-
-pub job-two-of-sixteen : jobRanks 512 4 2 16 ≡ values (353734640 ∷ 530601960 ∷ [])
-job-two-of-sixteen = ap (λ (all : ℕ). values (start all 16 2 ∷ start all 16 3 ∷ [])) fours
-
--- where a product of 32 bits would put that job
-pub wrapped-product : 2 * 2829877120 % 2 ^ 32 / 16 ≡ 85299184
-wrapped-product = refl
 
 -- the limits: 12 before 17, and the last that is taken
 pub count-limits : (setCount 513 8 ≡ refusal 12) × (setCount 512 8 ≡ refusal 17) × (setCount 512 7 ≡ values (binom 512 7 ∷ []))
@@ -74,10 +61,6 @@ pub rank-limits : (rankFromSet 513 (replicate 8 0) ≡ refusal 12) × (rankFromS
 unfolding revolving
 rank-limits = (refl, refl, refl, refl, refl, refl)
 
-pub job-limits : (jobRanks 513 8 0 0 ≡ refusal 12) × (jobRanks 512 8 0 0 ≡ refusal 17) × (jobRanks 4 2 0 0 ≡ refusal 19) × (jobRanks 4 2 0 65537 ≡ refusal 19) × (jobRanks 4 2 7 7 ≡ refusal 19) × (jobRanks 4 2 6 7 ≡ values (5 ∷ 6 ∷ [])) × (jobRanks 4 2 65535 65536 ≡ values (5 ∷ 6 ∷ []))
-unfolding binom
-job-limits = (refl, refl, refl, refl, refl, refl, refl)
-
 -- the number of each refusal, and what each answer tells
 pub numbers : (map refusalNumber (TooManyWires ∷ SizeTooLarge ∷ BufferTooShort ∷ RankTooLarge ∷ NoSuchJob ∷ NotASet ∷ []) ≡ 12 ∷ 17 ∷ 16 ∷ 18 ∷ 19 ∷ 21 ∷ [])
     × ((n : ℕ) → countTold (CountAnswer.Sets n) ≡ values (n ∷ []))
@@ -86,6 +69,4 @@ pub numbers : (map refusalNumber (TooManyWires ∷ SizeTooLarge ∷ BufferTooSho
     × ((why : Refusal) (l : List ℕ) → setTold (SetAnswer.Refused why) l ≡ record { told = refusal (refusalNumber why); held = l })
     × ((n : ℕ) → rankTold (RankAnswer.Rank n) ≡ values (n ∷ []))
     × ((why : Refusal) → rankTold (RankAnswer.Refused why) ≡ refusal (refusalNumber why))
-    × ((from to : ℕ) → jobTold (JobAnswer.Ranks from to) ≡ values (from ∷ to ∷ []))
-    × ((why : Refusal) → jobTold (JobAnswer.Refused why) ≡ refusal (refusalNumber why))
-numbers = (refl, λ n. refl, λ why. refl, λ l. refl, λ why l. refl, λ n. refl, λ why. refl, λ from to. refl, λ why. refl)
+numbers = (refl, λ n. refl, λ why. refl, λ l. refl, λ why l. refl, λ n. refl, λ why. refl)

@@ -1,25 +1,22 @@
 -- Each answer of `sets` in the scope's own numbers, and what each entry answers (scope, "Numbering and dividing" and
 -- "What each operation turns down").
 --     refusalNumber       the scope's number of each refusal
---     countTold, setTold, rankTold, jobTold            what each answer of the code tells
---     maxJobs             the most jobs of a division
---     setCount, setFromRank, rankFromSet, jobRanks     what each entry is to tell
-use Prim.Native.Nat.{ℕ, suc}
-use mathlib.Core.Bool.{cond, _&&_, _||_, not}
+--     countTold, setTold, rankTold            what each answer of the code tells
+--     setCount, setFromRank, rankFromSet      what each entry is to tell
+use Prim.Native.Nat.{ℕ}
+use mathlib.Core.Bool.{cond, _&&_, not}
 use mathlib.Core.List.{List, [], _∷_, _++_}
-use lib.Dec.{ltb, leb, eqb}
+use lib.Dec.{ltb, leb}
 use lib.ListN.{length, drop}
 use Rattle.limits.specs.Limits.{maxWires, maxSize}
 use Rattle.basics.specs.Told.{Told, Lent, values, refusal, turnedDown}
 use Rattle.counts.specs.Counts.{binom}
 use Rattle.revolving.specs.Order.{setAt, rankOf, rising, below}
-use Rattle.sets.specs.Division.{start}
 use Rattle.sets.specs.declared.Refusal.{Refusal}
 use Rattle.sets.specs.declared.Refusal.the-variants.{TooManyWires, SizeTooLarge, BufferTooShort, RankTooLarge, NoSuchJob, NotASet}
 use Rattle.sets.specs.declared.CountAnswer.{CountAnswer}
 use Rattle.sets.specs.declared.SetAnswer.{SetAnswer}
 use Rattle.sets.specs.declared.RankAnswer.{RankAnswer}
-use Rattle.sets.specs.declared.JobAnswer.{JobAnswer}
 
 abbrev pub refusalNumber : Refusal → ℕ
 refusalNumber TooManyWires = 12
@@ -40,13 +37,6 @@ setTold (SetAnswer.Refused why) held = record { told = refusal (refusalNumber wh
 abbrev pub rankTold : RankAnswer → Told
 rankTold (RankAnswer.Rank rank) = values (rank ∷ [])
 rankTold (RankAnswer.Refused why) = refusal (refusalNumber why)
-
-abbrev pub jobTold : JobAnswer → Told
-jobTold (JobAnswer.Ranks from to) = values (from ∷ to ∷ [])
-jobTold (JobAnswer.Refused why) = refusal (refusalNumber why)
-
-abbrev pub maxJobs : ℕ
-maxJobs = 65536
 
 -- a size above the wires has count 0
 abbrev pub setCount : ℕ → ℕ → Told
@@ -70,11 +60,3 @@ rankFromSet wires set =
     (cond (ltb maxSize (length set)) (refusal 17)
     (cond (not (rising set && below wires set)) (refusal 21)
     (values (rankOf wires set ∷ []))))
-
--- from the first rank up to, without, the second
-abbrev pub jobRanks : ℕ → ℕ → ℕ → ℕ → Told
-jobRanks wires size job jobs =
-    cond (ltb maxWires wires) (refusal 12)
-    (cond (ltb maxSize size) (refusal 17)
-    (cond (eqb jobs 0 || ltb maxJobs jobs || leb jobs job) (refusal 19)
-    (values (start (binom wires size) jobs job ∷ start (binom wires size) jobs (suc job) ∷ []))))

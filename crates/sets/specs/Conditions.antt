@@ -1,9 +1,8 @@
 -- What each entry of `sets` turns down, as the scope says it ("What each operation turns down"): its conditions in the order in which they are tested.
---     countConditions, setConditions, rankConditions, jobConditions     the entries'
+--     countConditions, setConditions, rankConditions     the entries'
 --     Falls       a wire of a set is not below the next
 --     Beyond      a wire of a set is none of the table's
 use Prim.Native.Nat.{ℕ, suc, _≤_, _<_}
-use mathlib.Core.Path.{_≡_}
 use mathlib.Core.Logic.{_⊎_}
 use mathlib.Core.List.{List, [], _∷_}
 use lib.ListN.{length, getD}
@@ -36,12 +35,4 @@ rankConditions wires set =
     12 when (maxWires < wires)
     ∷ 17 when (maxSize < length set)
     ∷ 21 when (Falls set ⊎ Beyond wires set)
-    ∷ []
-
--- "12, 17, then 19, no jobs, over 65,536, or job number not below them"
-abbrev pub jobConditions : ℕ → ℕ → ℕ → ℕ → List Condition
-jobConditions wires size job jobs =
-    12 when (maxWires < wires)
-    ∷ 17 when (maxSize < size)
-    ∷ 19 when ((jobs ≡ 0) ⊎ (65536 < jobs) ⊎ (jobs ≤ job))
     ∷ []

@@ -1,9 +1,7 @@
 -- The definitions that the promises of `sets` cite.
---     Division  the ranks and the sets of a job
 --     Answers   each answer in the numbers of the scope, and what each entry answers
 --     Visits    what the entries tell, taken together
 --     Conditions  what each entry turns down, in the order in which it is tested
-pub mod Division
 pub mod Answers
 pub mod Visits
 pub mod Conditions

@@ -1,7 +1,7 @@
-// Prints what the entries of `sets` answer: every set of up to three out of up to five wires and back, the examples of the
-// scope, and every refusal, on both sides of its limit. `tests/try_sets.py` works the same text out from the scope.
+// Prints what the entries of `sets` and of `division` answer: every set of up to three out of up to five wires and back, the
+// examples of the scope, and every refusal, on both sides of its limit. `tests/try_sets.py` works the same text out from the scope.
+use division::JobAnswer;
 use sets::CountAnswer;
-use sets::JobAnswer;
 use sets::RankAnswer;
 use sets::Refusal;
 use sets::SetAnswer;
@@ -96,7 +96,7 @@ fn tell_job(wires: usize, k: usize, job: u64, jobs: u64) {
     number(job);
     number(jobs);
     io::write_all(STDOUT, b":");
-    match sets::job(wires, k, job, jobs) {
+    match division::job(wires, k, job, jobs) {
         JobAnswer::Ranks { from, to } => {
             number(from);
             number(to);

@@ -4,9 +4,9 @@
 // and works the output out from the scope.
 ghost use Prim.Native.Nat.{_≤_, _<_};
 ghost use lib.ListN.{length};
+use division::JobAnswer;
 use limits::RECORD_BYTES;
 use sets::CountAnswer;
-use sets::JobAnswer;
 use try_cases::case_end;
 use try_cases::wide;
 use verdict_answers::RangeAnswer;
@@ -116,7 +116,7 @@ fn sets_of(table: &[u8], size: usize) -> u64 {
 
 fn jobs(table: &[u8], shares: usize, masks: usize, notion: usize, size: usize) {
     for job in 0..JOBS {
-        match sets::job(table.len() / RECORD_BYTES, size, job, JOBS) {
+        match division::job(table.len() / RECORD_BYTES, size, job, JOBS) {
             JobAnswer::Ranks { from, to } => {
                 tell_range(table, shares, masks, notion, size, from, to, ROOM);
             }

@@ -23,8 +23,8 @@ use Rattle.records.specs.Words.{bit}
 use Rattle.records.specs.Layout.{wireAt}
 use Rattle.counts.specs.Counts.{binom}
 use Rattle.revolving.specs.Order.{revolving}
-use Rattle.sets.specs.declared.JobAnswer.{JobAnswer}
-use Rattle.sets.specs.Answers.{jobTold}
+use Rattle.division.specs.declared.JobAnswer.{JobAnswer}
+use Rattle.division.specs.Answers.{jobTold}
 use Rattle.table.specs.declared.Refusal.the-variants.{SharesOrMasks, TableLength, RecordOutOfRange}
 use Rattle.table.proofs.Examples.{record8, tableA, tableB, tableC}
 use Rattle.verdict_answers.specs.declared.Refusal.{Refusal}

@@ -21,12 +21,12 @@ use Rattle.records.specs.Layout.{wireCount}
 use Rattle.table.proofs.Conditions.{accepted-exactly}
 use Rattle.counts.specs.Counts.{binom}
 use Rattle.revolving.specs.Order.{revolving, setAt, rankOf, isSet}
-use Rattle.sets.specs.Answers.{jobRanks}
+use Rattle.division.specs.Answers.{jobRanks}
 use Rattle.revolving.proofs.Revolving.{revolving-length, set-at-is-set}
-use Rattle.sets.specs.Division.{start, visited, joined}
-use Rattle.sets.proofs.Division.{start-rises, start-within, jobs-joined}
-use Rattle.sets.proofs.Conditions.{job-settled}
-use Rattle.sets.proofs.Entries.{job-told}
+use Rattle.division.specs.Division.{start, visited, joined}
+use Rattle.division.proofs.Division.{start-rises, start-within, jobs-joined}
+use Rattle.division.proofs.Conditions.{job-settled}
+use Rattle.division.proofs.Entries.{job-told}
 use Rattle.breaking.specs.Breaking.{isBreaking}
 use Rattle.search.specs.Search.{searched}
 use Rattle.verdict_answers.specs.Answers.{notionOf, firstShown, firstRanked, verdictOf, rangeCheck}

@@ -15,7 +15,7 @@ use Rattle.limits.specs.Limits.{maxSize}
 use Rattle.basics.specs.Told.{Lent, values}
 use Rattle.records.specs.Layout.{wireCount}
 use Rattle.table.specs.Answers.{tableCheck}
-use Rattle.sets.specs.Answers.{jobRanks}
+use Rattle.division.specs.Answers.{jobRanks}
 use Rattle.verdict_answers.specs.Answers.{written, rangeCheck}
 use Rattle.verdict_answers.specs.Conditions.{WrongNotion}
 

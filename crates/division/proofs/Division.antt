@@ -17,7 +17,7 @@ use lib.ListN.{take}
 use lib.Seq.{take-add, take-all}
 use Rattle.counts.specs.Counts.{binom}
 use Rattle.revolving.specs.Order.{revolving, setAt, rankOf, isSet}
-use Rattle.sets.specs.Division.{start, share, total, visited, joined, HasRank, ExactlyOne}
+use Rattle.division.specs.Division.{start, share, total, visited, joined, HasRank, ExactlyOne}
 use Rattle.revolving.proofs.Revolving.{revolving-length, set-of-rank, rank-unique}
 
 pub start-zero : (all jobs : ℕ) → start all jobs 0 ≡ 0

@@ -1,10 +1,10 @@
--- `sets::first_rank` meets its contract: each part of the quotient fits a word, and the parts add up to it.
+-- `division::first_rank` meets its contract: each part of the quotient fits a word, and the parts add up to it.
 -- Assumes nothing.
 use native.Mathlib.Omega.{arith}
-use Rattle.sets.proofs.Division.{start-parts, start-within, whole-within, rest-within}
+use Rattle.division.proofs.Division.{start-parts, start-within, whole-within, rest-within}
 use borrow.Author.Needs.{needs}
-use Rattle.sets.proofs.first_rank.Statement.{statement}
-use Rattle.sets.proofs.first_rank.Tie as tie
+use Rattle.division.proofs.first_rank.Statement.{statement}
+use Rattle.division.proofs.first_rank.Tie as tie
 
 div-whole : tie.Need-div-whole
 div-whole c = search needs

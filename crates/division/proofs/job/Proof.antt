@@ -1,13 +1,13 @@
--- `sets::job` meets its contract: each refusal where its test is the first to fail, else the ranks at which the job and the next one start.
+-- `division::job` meets its contract: each refusal where its test is the first to fail, else the ranks at which the job and the next one start.
 -- Assumes nothing.
 use native.Mathlib.Numerals.{add-one}
 use native.Mathlib.Omega.{arith}
 use borrow.Author.Tests.{lt-ltb, le-ltb, le-leb, lt-leb, eq-eqb, ne-eqb}
 use borrow.Author.Needs.{needs}
 use Rattle.limits.specs.Limits.{maxWires, maxSize}
-use Rattle.sets.specs.Answers.{maxJobs}
-use Rattle.sets.proofs.job.Statement.{statement}
-use Rattle.sets.proofs.job.Tie as tie
+use Rattle.division.specs.Answers.{maxJobs}
+use Rattle.division.proofs.job.Statement.{statement}
+use Rattle.division.proofs.job.Tie as tie
 
 returns : tie.Need-returns
 returns c =
