@@ -42,7 +42,7 @@ pub extern "C" fn calduvren_check_size(
     ensures { λ r. ⌜ Kept r (now (order .exit) ∷ now (shares .exit) ∷ now (masks .exit) ∷ now (wires .exit) ∷ now (bytes .exit) ∷ []) (now (order .entry) ∷ now (shares .entry) ∷ now (masks .entry) ∷ now (wires .entry) ∷ now (bytes .entry) ∷ []) (now (sets .exit)) (now (sets .entry)) ⌝ }
     ensures { λ r. ⌜ CheckSizeSays r (now (order .exit)) (now (shares .exit)) (now (masks .exit)) (now (wires .exit)) (now (bytes .exit)) (now (offset .exit)) (now (offset .entry)) (now (text .entry)) (now (sets .entry)) (now (sets .exit)) ⌝ }
 {
-    text_calls::check_size(text, sets, order, shares, masks, wires, bytes, offset)
+    size_calls::check_size(text, sets, order, shares, masks, wires, bytes, offset)
 }
 
 // Where the part of the text that computes a wire stands.

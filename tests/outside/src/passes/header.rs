@@ -22,10 +22,11 @@ pub const HEADER: &str = "include/calduvren.h";
 const CRATE: &str = "crates/calduvren/src";
 const EXPORTED: &str = "pub extern \"C\" fn ";
 /// Where the work of the exported functions is done, by functions of the same names without this word before them.
-const BELOW: [&str; 3] = [
+const BELOW: [&str; 4] = [
     "crates/set_calls/src",
     "crates/table_calls/src",
     "crates/text_calls/src",
+    "crates/size_calls/src",
 ];
 const BEFORE: &str = "calduvren_";
 /// The header's rule: a function more raises the version's minor number, another answer to the same call its major one.

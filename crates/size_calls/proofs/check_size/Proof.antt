@@ -1,9 +1,9 @@
--- `text_calls::check_size` meets its contract: each answer tells its number or its values, which mean what the answer means.
+-- `size_calls::check_size` meets its contract: each answer tells its number or its values, which mean what the answer means.
 -- Assumes nothing.
 use borrow.Author.Needs.{needs}
 use Rattle.call_answers.proofs.Measuring.{size-low, size-gave, size-short, size-refused}
-use Rattle.text_calls.proofs.check_size.Statement.{statement}
-use Rattle.text_calls.proofs.check_size.Tie as tie
+use Rattle.size_calls.proofs.check_size.Statement.{statement}
+use Rattle.size_calls.proofs.check_size.Tie as tie
 
 check-size-requires : tie.Need-check-size-requires
 check-size-requires c κs = search needs
