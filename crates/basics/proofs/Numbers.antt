@@ -1,10 +1,11 @@
 -- Induction over numbers.
 --     from-on     what holds at a number, and goes on from each number to the next as long as that is not past an end, holds up to the end
+--     rises       numbers that do not fall from one to the next do not fall
 use Prim.Native.Nat.{ℕ, zero, suc, _+_, _≤_, _<_}
-use native.Mathlib.Nat.{eq-or-lt-of-le, le-of-suc-le-suc}
+use native.Mathlib.Nat.{le-refl, eq-or-lt-of-le, le-of-suc-le-suc}
 use native.Mathlib.Numerals.{add-one}
 use native.Mathlib.Omega.{arith}
-use mathlib.Core.Path.{_≡_, subst}
+use mathlib.Core.Path.{_≡_, ap, subst}
 use mathlib.Core.Logic.{_⊎_, inl, inr}
 
 pub from-on : (P : ℕ → Type 0) (from end : ℕ) → P from → ((i : ℕ) → from ≤ i → i < end → P i → P (i + 1)) → (i : ℕ) → from ≤ i → i ≤ end → P i
@@ -14,3 +15,6 @@ from-on P from end first next (suc i) low h = go (eq-or-lt-of-le low) (from-on P
     go : (from ≡ suc i) ⊎ (from < suc i) → (from ≤ i → i ≤ end → P i) → P (suc i)
     go (inl e) before = subst P e first
     go (inr p) before = let at-least : from ≤ i = le-of-suc-le-suc p in subst P (add-one i) (next i at-least (omega arith) (before at-least (omega arith)))
+
+pub rises : (f : ℕ → ℕ) → ((i : ℕ) → f i ≤ f (suc i)) → (a b : ℕ) → a ≤ b → f a ≤ f b
+rises f up a b h = from-on (λ (i : ℕ). f a ≤ f i) a b (le-refl (f a)) (λ i low less before. omega (arith, before, up i, ap f (add-one i))) b h (le-refl b)

@@ -2,13 +2,14 @@
 --     binom-zero, binom-none, binom-suc     the rule
 --     binom-wider                           more wires have no fewer sets
 --     binom-above                           a size above the wires has count 0
---     binom-bound, counts-fit               a count is at most a power, and fits in 64 bits
+--     binom-bound                           a count is at most a power
+--     largest, counts-fit                   the largest number of 64 bits, which no count reaches
 use Prim.Native.Nat.{ℕ, zero, suc, _+_, _*_, _^_, _≤_, _<_}
-use native.Mathlib.Nat.{le-refl, le-of-suc-le-suc, eq-or-lt-of-le, not-suc-le-zero, mul-le-mul-right, pow-zero, pow-suc}
+use native.Mathlib.Nat.{le-of-suc-le-suc, not-suc-le-zero, mul-le-mul-right, pow-zero, pow-suc}
 use native.Mathlib.Omega.{arith}
 use mathlib.Core.Path.{_≡_, refl}
-use mathlib.Core.Logic.{_⊎_, inl, inr}
 use Rattle.limits.specs.Limits.{maxWires, maxSize}
+use Rattle.basics.proofs.Numbers.{rises}
 use Rattle.counts.specs.Counts.{binom}
 
 pub binom-zero : (n : ℕ) → binom n 0 ≡ 1
@@ -25,13 +26,11 @@ unfolding binom
 binom-suc n k = refl
 
 pub binom-wider : (m n k : ℕ) → m ≤ n → binom m k ≤ binom n k
-binom-wider m n zero h = omega (arith, binom-zero m, binom-zero n)
-binom-wider m zero (suc k) h = let e : m ≡ 0 = omega arith in rw e (le-refl (binom 0 (suc k)))
-binom-wider m (suc n) (suc k) h = go (eq-or-lt-of-le h) (binom-wider m n (suc k))
+binom-wider m n k h = rises (λ (i : ℕ). binom i k) (up k) m n h
   where
-    go : (m ≡ suc n) ⊎ (m < suc n) → (m ≤ n → binom m (suc k) ≤ binom n (suc k)) → binom m (suc k) ≤ binom (suc n) (suc k)
-    go (inl e) ih = rw e (le-refl (binom (suc n) (suc k)))
-    go (inr p) ih = omega (arith, ih (le-of-suc-le-suc p), binom-suc n k)
+    up : (k i : ℕ) → binom i k ≤ binom (suc i) k
+    up zero i = omega (arith, binom-zero i, binom-zero (suc i))
+    up (suc k) i = omega (arith, binom-suc i k)
 
 pub binom-above : (n k : ℕ) → n < k → binom n k ≡ 0
 binom-above n zero h = absurd (not-suc-le-zero h)
@@ -51,16 +50,15 @@ binom-bound most n (suc k) h = up (part (λ n h. binom-bound most n k h) n h)
     up b = omega (arith, b, mul-le-mul-right (most ^ k) h, pow-suc most k)
 
 power-up : (a k m : ℕ) → 0 < a → k ≤ m → a ^ k ≤ a ^ m
-power-up a k zero h p = let e : k ≡ 0 = omega arith in rw e (le-refl (a ^ 0))
-power-up a k (suc m) h p = go (eq-or-lt-of-le p) (power-up a k m h)
-  where
-    go : (k ≡ suc m) ⊎ (k < suc m) → (k ≤ m → a ^ k ≤ a ^ m) → a ^ k ≤ a ^ suc m
-    go (inl e) ih = rw e (le-refl (a ^ suc m))
-    go (inr q) ih = omega (arith, ih (le-of-suc-le-suc q), mul-le-mul-right (a ^ m) h, pow-suc a m)
+power-up a k m h p = rises (λ (i : ℕ). a ^ i) (λ i. omega (arith, mul-le-mul-right (a ^ i) h, pow-suc a i)) k m p
 
--- every count is below the largest number of 64 bits
-pub counts-fit : (n k : ℕ) → n ≤ maxWires → k ≤ maxSize → binom n k < 18446744073709551615
+-- the largest number of 64 bits
+abbrev pub largest : ℕ
+largest = 18446744073709551615
+
+-- every count is below it
+pub counts-fit : (n k : ℕ) → n ≤ maxWires → k ≤ maxSize → binom n k < largest
 counts-fit n k h p =
-    let all : maxWires ^ maxSize < 18446744073709551615 = omega arith in
+    let all : maxWires ^ maxSize < largest = omega arith in
     let low : 0 < maxWires = omega arith in
     omega (arith, all, binom-bound maxWires n k h, power-up maxWires k maxSize low p)

@@ -6,15 +6,15 @@
 --     job-of-rank, one-job, rank-counted     every rank below the count, and no other, is in exactly one job
 --     visited-once       every set is visited by exactly one job, at exactly one rank of it
 use Prim.Native.Nat.{ℕ, zero, suc, _+_, _-_, _*_, _/_, _%_, _≤_, _<_}
-use native.Mathlib.Nat.{mod-lt, mul-le-mul, mul-add-div-right, mul-assoc, mul-add, div-add-mod', zero-mul, zero-div, mul-div-cancel-left, suc-mul, le-div-iff-mul-le, div-mul-le-self, le-refl, le-trans, le-of-suc-le-suc, eq-or-lt-of-le, mul-le-mul-right}
+use native.Mathlib.Nat.{mod-lt, mul-le-mul, mul-add-div-right, mul-assoc, mul-add, div-add-mod', zero-mul, zero-div, mul-div-cancel-left, suc-mul, le-div-iff-mul-le, div-mul-le-self, le-trans, mul-le-mul-right}
 use native.Mathlib.Decide.{decLt}
 use native.Mathlib.Omega.{arith}
 use mathlib.Core.Path.{_≡_, sym, _∙_, ap, subst}
-use mathlib.Core.Logic.{_⊎_, inl, inr}
 use mathlib.Core.Bool.{true}
 use mathlib.Core.List.{List, _++_}
 use lib.ListN.{take}
 use lib.Seq.{take-add, take-all}
+use Rattle.basics.proofs.Numbers.{rises}
 use Rattle.counts.specs.Counts.{binom}
 use Rattle.revolving.specs.Order.{revolving, setAt, rankOf, isSet}
 use Rattle.division.specs.Division.{start, share, total, visited, joined, HasRank, ExactlyOne}
@@ -92,21 +92,13 @@ passes f (suc j) r p q = go (decLt r (f j)) (passes f j r p)
     go (yes b) ih = let s = ih b in (s .0, omega (arith, s .1), s .2, s .3)
     go (no b) ih = (j, omega arith, omega arith, q)
 
-rises-to : (f : ℕ → ℕ) → ((i : ℕ) → f i ≤ f (suc i)) → (a b : ℕ) → a ≤ b → f a ≤ f b
-rises-to f up a zero p = let e : a ≡ 0 = omega arith in rw e (le-refl (f 0))
-rises-to f up a (suc b) p = go (eq-or-lt-of-le p) (rises-to f up a b)
-  where
-    go : (a ≡ suc b) ⊎ (a < suc b) → (a ≤ b → f a ≤ f b) → f a ≤ f (suc b)
-    go (inl e) ih = rw e (le-refl (f (suc b)))
-    go (inr q) ih = omega (arith, ih (le-of-suc-le-suc q), up b)
-
 -- and at one step only
 passes-once : (f : ℕ → ℕ) → ((i : ℕ) → f i ≤ f (suc i)) → (i j r : ℕ) → f i ≤ r → r < f (suc i) → f j ≤ r → r < f (suc j) → i ≡ j
 passes-once f up i j r a b c d = go (decLt i j) (decLt j i)
   where
     go : Dec (i < j) → Dec (j < i) → i ≡ j
-    go (yes p) w = let z : ⊥ = omega (arith, rises-to f up (suc i) j p) in absurd z
-    go (no p) (yes q) = let z : ⊥ = omega (arith, rises-to f up (suc j) i q) in absurd z
+    go (yes p) w = let z : ⊥ = omega (arith, rises f up (suc i) j p) in absurd z
+    go (no p) (yes q) = let z : ⊥ = omega (arith, rises f up (suc j) i q) in absurd z
     go (no p) (no q) = omega arith
 
 pub job-of-rank : (all jobs r : ℕ) → 0 < jobs → r < all → (i : ℕ) × HasRank all jobs i r

@@ -6,7 +6,7 @@
 --     wires-none, wires-more            the wires of a table: none, or that of the first record and those of the rest
 --     inside-none, inside-more          the empty set, and one wire more
 --     inside-exactly                    every wire of a set is one of the table's
-use Prim.Native.Nat.{ℕ, zero, suc, _+_, _-_, _*_, _/_, _%_, _<_, suc-le-suc}
+use Prim.Native.Nat.{ℕ, zero, suc, _+_, _*_, _/_, _%_, _<_, suc-le-suc}
 use native.Mathlib.Nat.{mod-lt, zero-lt-suc, zero-add}
 use native.Mathlib.Omega.{arith}
 use mathlib.Core.Path.{_≡_, refl, sym, _∙_, ap, ap₂, subst}
