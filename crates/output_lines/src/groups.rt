@@ -17,9 +17,9 @@ use listing::Progress;
 use listing::empty_group;
 use listing::put_item;
 use listing::take_symbol;
+use symbol_tokens::symbol_of;
 use tokens::bytes::LINE_END;
 use tokens::bytes::word_size;
-use tokens::symbols::symbol_of;
 
 // How far the reading went, or why it stopped and where.
 pub enum Answer {

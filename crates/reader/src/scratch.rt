@@ -14,11 +14,11 @@ use description::Masks;
 use description::MasksLine;
 use description::OrderLine;
 use description::Refusal;
+use header_lines::masks_line;
+use header_lines::order_line;
 use limits::MAX_WIRES;
 use output_lines::groups::Answer;
 use output_lines::lines;
-use tokens::header::masks_line;
-use tokens::header::order_line;
 
 // Where the second line starts: `ORDER = `, a digit and a line end stand before it.
 const SECOND_LINE: usize = 10;

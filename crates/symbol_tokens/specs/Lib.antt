@@ -1,0 +1,3 @@
+-- What the promises of `symbol_tokens` cite.
+--     Digits    digits of shares
+pub mod Digits

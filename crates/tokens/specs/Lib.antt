@@ -1,3 +1,0 @@
--- What the promises of `tokens` cite.
---     Digits    digits of shares
-pub mod Digits
