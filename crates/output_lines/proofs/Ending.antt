@@ -17,10 +17,11 @@ use Rattle.description.proofs.Running.{drop-byte, run-end}
 use Rattle.description.proofs.Passing.{at-space, at-line-end, at-over, not-open}
 use Rattle.listing.specs.declared.Progress.{Progress}
 use Rattle.listing.specs.Progress.{Stands, lineProgress, Follows}
-use Rattle.output_lines.specs.Going.{Within, Skips, LineWent, LineReads, nextLine}
-use Rattle.output_lines.specs.declared.groups.Answer.the-variants.{Went, Stopped}
-use Rattle.output_lines.proofs.Reaching.{stands-lines, fewer, once}
-use Rattle.output_lines.proofs.Closing.{stands-group}
+use Rattle.groups.specs.Going.{Within}
+use Rattle.groups.specs.declared.Answer.the-variants.{Went, Stopped}
+use Rattle.groups.proofs.Reaching.{stands-lines, fewer, once}
+use Rattle.groups.proofs.Closing.{stands-group}
+use Rattle.output_lines.specs.Going.{Skips, LineWent, LineReads, nextLine}
 
 -- ---- spaces
 

@@ -16,11 +16,12 @@ use Rattle.description.specs.declared.Refusal.{Refusal}
 use Rattle.description.specs.declared.Refusal.the-variants.{WrongLineCount}
 use Rattle.description.proofs.Running.{run-end}
 use Rattle.listing.specs.declared.Progress.{Progress}
-use Rattle.output_lines.specs.Going.{Within, Reached, LineWent, LineReads, AllRead, GroupWent, Stops, startProgress}
-use Rattle.output_lines.specs.declared.groups.Answer.{Answer}
-use Rattle.output_lines.specs.declared.groups.Answer.the-variants.{Went, Stopped}
-use Rattle.output_lines.proofs.Reaching.{stands-lines}
-use Rattle.output_lines.proofs.Closing.{stands-group}
+use Rattle.groups.specs.Going.{Within, Reached, GroupWent, Stops}
+use Rattle.groups.specs.declared.Answer.{Answer}
+use Rattle.groups.specs.declared.Answer.the-variants.{Went, Stopped}
+use Rattle.groups.proofs.Reaching.{stands-lines}
+use Rattle.groups.proofs.Closing.{stands-group}
+use Rattle.output_lines.specs.Going.{LineWent, LineReads, AllRead, startProgress}
 
 -- no group is open at a line's start
 shallow : (s : State) → s .around ≡ [] → length (s .around) + 16 ≡ maxDepth

@@ -6,7 +6,8 @@ ghost use Prim.Native.Nat.{ℕ, _≤_, _<_};
 ghost use lib.ListN.{length};
 ghost use Rattle.limits.specs.Limits.{maxShares, maxTableBytes};
 ghost use Rattle.description.specs.Run.{maxText};
-ghost use Rattle.output_lines.specs.Going.{Within, Sized, Ends, Skips, LineReads, LinesRead, nextLine, startProgress};
+ghost use Rattle.groups.specs.Going.{Within, Sized, Ends};
+ghost use Rattle.output_lines.specs.Going.{Skips, LineReads, LinesRead, nextLine, startProgress};
 use description::PlacedSymbol;
 use description::Refusal;
 use groups::Answer;
@@ -17,8 +18,6 @@ use listing::end_line;
 use records::sums::nothing;
 use tokens::bytes::line_ends;
 use wires::Symbol;
-
-pub mod groups;
 
 // How many parentheses may be open at once.
 pub const MAX_DEPTH: usize = 16;

@@ -14,10 +14,10 @@ use description::Masks;
 use description::MasksLine;
 use description::OrderLine;
 use description::Refusal;
+use groups::Answer;
 use header_lines::masks_line;
 use header_lines::order_line;
 use limits::MAX_WIRES;
-use output_lines::groups::Answer;
 use output_lines::lines;
 
 // Where the second line starts: `ORDER = `, a digit and a line end stand before it.

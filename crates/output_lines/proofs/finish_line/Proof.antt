@@ -2,7 +2,7 @@
 -- Assumes nothing.
 use native.Mathlib.Omega.{arith}
 use mathlib.Core.Logic.{⊎-elim}
-use Rattle.output_lines.specs.Going.{Ends}
+use Rattle.groups.specs.Going.{Ends}
 use Rattle.output_lines.proofs.Ending.{finish-closing, finish-blank, finish-line}
 use borrow.Author.Needs.{needs}
 use Rattle.output_lines.proofs.finish_line.Statement.{statement}

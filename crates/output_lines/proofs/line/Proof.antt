@@ -3,8 +3,9 @@
 use native.Mathlib.Omega.{arith}
 use mathlib.Core.Path.{subst}
 use Prim.Native.Nat.{ℕ}
-use Rattle.output_lines.specs.Going.{GroupReads, GroupWent, LineReads}
-use Rattle.output_lines.specs.declared.groups.Answer.{Answer}
+use Rattle.groups.specs.Going.{GroupReads, GroupWent}
+use Rattle.groups.specs.declared.Answer.{Answer}
+use Rattle.output_lines.specs.Going.{LineReads}
 use Rattle.output_lines.proofs.Outputs.{line-stopped, line-finished}
 use borrow.Author.Needs.{needs}
 use Rattle.output_lines.proofs.line.Statement.{statement}

@@ -5,8 +5,8 @@ use native.Mathlib.Omega.{arith}
 use mathlib.Core.Path.{_≡_, refl, _∙_, subst}
 use lib.ListN.{length}
 use borrow.Author.Needs.{needs}
+use Rattle.groups.specs.declared.Answer.{Answer}
 use Rattle.output_lines.specs.Going.{LineReads, LineWent}
-use Rattle.output_lines.specs.declared.groups.Answer.{Answer}
 use Rattle.output_lines.proofs.Outputs.{Past, past-start, past-line, past-stopped, past-few, past-all}
 use Rattle.output_lines.proofs.lines.Statement.{statement}
 use Rattle.output_lines.proofs.lines.Tie as tie

@@ -3,7 +3,7 @@
 use Prim.Native.Nat.{_+_}
 use mathlib.Core.Path.{subst}
 use Rattle.output_lines.specs.Going.{LinesRead}
-use Rattle.output_lines.specs.declared.groups.Answer.{Answer}
+use Rattle.groups.specs.declared.Answer.{Answer}
 use Rattle.reader.proofs.Heading.{lines-refused, lines-many, lines-scratched}
 use borrow.Author.Needs.{needs}
 use Rattle.reader.proofs.scratch.read_lines.Statement.{statement}

@@ -1,10 +1,10 @@
--- `output_lines::groups::symbol_item` meets its contract: the longest run is read, and the run of the text stops or goes on with it.
+-- `groups::symbol_item` meets its contract: the longest run is read, and the run of the text stops or goes on with it.
 -- Assumes nothing.
 use native.Mathlib.Omega.{arith}
-use Rattle.output_lines.proofs.Reaching.{word-fits, word-some, symbol-small, symbol-went, symbol-unknown, symbol-undeclared}
+use Rattle.groups.proofs.Reaching.{word-fits, word-some, symbol-small, symbol-went, symbol-unknown, symbol-undeclared}
 use borrow.Author.Needs.{needs}
-use Rattle.output_lines.proofs.groups.symbol_item.Statement.{statement}
-use Rattle.output_lines.proofs.groups.symbol_item.Tie as tie
+use Rattle.groups.proofs.symbol_item.Statement.{statement}
+use Rattle.groups.proofs.symbol_item.Tie as tie
 
 word-size-requires : tie.Need-word-size-requires
 word-size-requires c κs = search needs

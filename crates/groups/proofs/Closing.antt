@@ -16,9 +16,9 @@ use Rattle.description.proofs.Running.{run-end}
 use Rattle.description.proofs.Passing.{wrong-end, at-closing, nothing-inside}
 use Rattle.listing.specs.declared.Progress.{Progress}
 use Rattle.listing.specs.Progress.{Stands, putProgress, Follows}
-use Rattle.output_lines.specs.Going.{Within, Ends, CloseReads, CloseWent, outside}
-use Rattle.output_lines.specs.declared.groups.Answer.the-variants.{Stopped}
-use Rattle.output_lines.proofs.Reaching.{fewer, once, put-begun}
+use Rattle.groups.specs.Going.{Within, Ends, CloseReads, CloseWent, outside}
+use Rattle.groups.specs.declared.Answer.the-variants.{Stopped}
+use Rattle.groups.proofs.Reaching.{fewer, once, put-begun}
 
 pub stands-group : {table : List ℕ} {p : Progress} {s : State} → Stands table p s → s .group ≡ p .group
 stands-group h = ap (λ (t : State). t .group) (h .state)

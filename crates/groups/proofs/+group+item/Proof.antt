@@ -9,21 +9,21 @@ use lib.ListN.{length, getD}
 use borrow.Fn.Kinds.{In}
 use borrow.Fn.PlainCycle.{Measures, is, falls, and}
 use Rattle.listing.specs.declared.Progress.{Progress}
-use Rattle.output_lines.specs.Going.{Within, ItemByte, ItemReads, ItemWent, GroupReads, GroupWent, entered}
-use Rattle.output_lines.specs.declared.groups.Answer.{Answer}
-use Rattle.output_lines.proofs.Entering.{item-bar, item-deep, symbol-byte, entered-within, inside-stopped, inside-closed}
-use Rattle.output_lines.proofs.Gathering.{Gone, gone-start, gone-space, gone-item, gone-stopped, gone-ended, ends-closing, ends-line, ends-text}
-use Rattle.output_lines.proofs.groups.group.Reads as group
-use Rattle.output_lines.proofs.groups.group.Kinds as group-kinds
-use Rattle.output_lines.proofs.groups.+group+item.Lts-group as group-lts
-use Rattle.output_lines.proofs.groups.item.Reads as item
-use Rattle.output_lines.proofs.groups.item.Kinds as item-kinds
-use Rattle.output_lines.proofs.groups.+group+item.Lts-item as item-lts
-use Rattle.output_lines.proofs.groups.close.Reads as close-reads
-use Rattle.output_lines.proofs.groups.enter.Reads as enter-reads
-use Rattle.output_lines.proofs.groups.symbol_item.Reads as symbol-item-reads
-use Rattle.output_lines.proofs.groups.+group+item.{statement}
-use Rattle.output_lines.proofs.groups.+group+item.Tie.{close}
+use Rattle.groups.specs.Going.{Within, ItemByte, ItemReads, ItemWent, GroupReads, GroupWent, entered}
+use Rattle.groups.specs.declared.Answer.{Answer}
+use Rattle.groups.proofs.Entering.{item-bar, item-deep, symbol-byte, entered-within, inside-stopped, inside-closed}
+use Rattle.groups.proofs.Gathering.{Gone, gone-start, gone-space, gone-item, gone-stopped, gone-ended, ends-closing, ends-line, ends-text}
+use Rattle.groups.proofs.group.Reads as group
+use Rattle.groups.proofs.group.Kinds as group-kinds
+use Rattle.groups.proofs.+group+item.Lts-group as group-lts
+use Rattle.groups.proofs.item.Reads as item
+use Rattle.groups.proofs.item.Kinds as item-kinds
+use Rattle.groups.proofs.+group+item.Lts-item as item-lts
+use Rattle.groups.proofs.close.Reads as close-reads
+use Rattle.groups.proofs.enter.Reads as enter-reads
+use Rattle.groups.proofs.symbol_item.Reads as symbol-item-reads
+use Rattle.groups.proofs.+group+item.{statement}
+use Rattle.groups.proofs.+group+item.Tie.{close}
 
 abbrev μ-group : Measures 2 group-kinds.ps ℕ
 μ-group κs a = 2 * (length (a .0 .now) - a .1 .1 .1 .1 .0 .at) + 1

@@ -19,11 +19,11 @@ use Rattle.description.specs.declared.Refusal.the-variants.{Bar, NestedTooDeep}
 use Rattle.description.proofs.Passing.{at-bar, at-opening, too-deep}
 use Rattle.listing.specs.declared.Progress.{Progress}
 use Rattle.listing.specs.Progress.{Stands}
-use Rattle.output_lines.specs.Going.{Within, ItemByte, entered, ItemReads, GroupWent, Stops, CloseReads, outside}
-use Rattle.output_lines.specs.declared.groups.Answer.{Answer}
-use Rattle.output_lines.specs.declared.groups.Answer.the-variants.{Went, Stopped}
-use Rattle.output_lines.proofs.Reaching.{fewer}
-use Rattle.output_lines.proofs.Closing.{stands-group}
+use Rattle.groups.specs.Going.{Within, ItemByte, entered, ItemReads, GroupWent, Stops, CloseReads, outside}
+use Rattle.groups.specs.declared.Answer.{Answer}
+use Rattle.groups.specs.declared.Answer.the-variants.{Went, Stopped}
+use Rattle.groups.proofs.Reaching.{fewer}
+use Rattle.groups.proofs.Closing.{stands-group}
 
 pub symbol-byte : (c : ℕ) → ItemByte c → (c ≡ bar → ⊥) → (c ≡ opening → ⊥) → parts c ≡ false
 symbol-byte c b no-bar no-opening =

@@ -42,7 +42,7 @@ use Rattle.description.proofs.Following.{symbol-long}
 use Rattle.description.proofs.Passing.{at-symbol, no-such, not-declared}
 use Rattle.listing.specs.declared.Progress.{Progress}
 use Rattle.listing.specs.Progress.{Stands, tookProgress, Follows}
-use Rattle.output_lines.specs.Going.{Within, ItemWent, Stops}
+use Rattle.groups.specs.Going.{Within, ItemWent, Stops}
 
 pub stands-lines : {table : List ℕ} {p : Progress} {s : State} → Stands table p s → s .lines ≡ p .lines
 stands-lines h = ap (λ (t : State). t .lines) (h .state)

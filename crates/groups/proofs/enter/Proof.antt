@@ -1,12 +1,12 @@
--- `output_lines::groups::enter` meets its contract: the place goes on, and the group is a new one.
+-- `groups::enter` meets its contract: the place goes on, and the group is a new one.
 -- Assumes nothing.
 use Prim.Native.Nat.{_+_}
 use mathlib.Core.Path.{ap}
 use Rattle.description.specs.declared.Group.{Group}
 use Rattle.listing.specs.declared.Progress.{Progress}
 use borrow.Author.Needs.{needs}
-use Rattle.output_lines.proofs.groups.enter.Statement.{statement}
-use Rattle.output_lines.proofs.groups.enter.Tie as tie
+use Rattle.groups.proofs.enter.Statement.{statement}
+use Rattle.groups.proofs.enter.Tie as tie
 
 empty-group-requires : tie.Need-empty-group-requires
 empty-group-requires c κs = search needs

@@ -7,7 +7,7 @@ ghost use lib.ListN.{length, getD};
 ghost use Rattle.limits.specs.Limits.{maxShares, maxTableBytes};
 ghost use Rattle.description.specs.Bytes.{parts};
 ghost use Rattle.description.specs.Run.{maxText, maxDepth};
-ghost use Rattle.output_lines.specs.Going.{Within, Sized, ItemByte, ItemReads, GroupReads, CloseReads, Ends, entered};
+ghost use Rattle.groups.specs.Going.{Within, Sized, ItemByte, ItemReads, GroupReads, CloseReads, Ends, entered};
 use description::Group;
 use description::Item;
 use description::PlacedSymbol;

@@ -14,7 +14,7 @@ use Rattle.description.specs.declared.Refusal.{Refusal}
 use Rattle.description.proofs.Passing.{at-space}
 use Rattle.listing.specs.declared.Progress.{Progress}
 use Rattle.listing.specs.Progress.{Stands}
-use Rattle.output_lines.specs.Going.{Within, Ends, Reached, ItemWent, GroupWent, Stops}
+use Rattle.groups.specs.Going.{Within, Ends, Reached, ItemWent, GroupWent, Stops}
 
 pub record Gone (shares declared : ℕ) (text : List ℕ) (room : ℕ) (table₀ : List ℕ) (p : Progress) (table : List ℕ) (q : Progress)
     (at : ℕ) : Type 0 where

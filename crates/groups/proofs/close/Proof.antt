@@ -1,11 +1,11 @@
--- `output_lines::groups::close` meets its contract: a closing parenthesis after an item, else the refusal at its place.
+-- `groups::close` meets its contract: a closing parenthesis after an item, else the refusal at its place.
 -- Assumes nothing.
 use native.Mathlib.Omega.{arith}
 use borrow.Author.Tests.{not-true, not-false}
-use Rattle.output_lines.proofs.Closing.{close-at-end, close-at-line, close-empty, close-went}
+use Rattle.groups.proofs.Closing.{close-at-end, close-at-line, close-empty, close-went}
 use borrow.Author.Needs.{needs}
-use Rattle.output_lines.proofs.groups.close.Statement.{statement}
-use Rattle.output_lines.proofs.groups.close.Tie as tie
+use Rattle.groups.proofs.close.Statement.{statement}
+use Rattle.groups.proofs.close.Tie as tie
 
 returns : tie.Need-returns
 returns c = close-at-end _ _ _ _ _ (c .before .before .before .args .table .now) (c .if1 .taken)
