@@ -29,6 +29,7 @@ use Rattle.reader.proofs.Parts.{part-exactly, part-told}
 use Rattle.report_text.specs.declared.ReportAnswer.{ReportAnswer}
 use Rattle.report_text.specs.declared.Refusal as report-refusal
 use Rattle.report_text.specs.Report as report
+use Rattle.report_lines.specs.Report as report-lines
 use Rattle.call_answers.specs.Calls.{got, lentAnswered, lentRead}
 use Rattle.call_answers.specs.Meaning.{Kept, ReadSays, PartSays, ReportSays}
 use Rattle.verdict_answers.specs.Answers.{written}
@@ -170,22 +171,22 @@ module _ (text table : List ℕ) (wire : ℕ) where
 
 module _ (text buffer held : List ℕ) where
   abbrev wrote : Lent
-  wrote = record { told = values (length (report.report text) ∷ []); held = written (report.report text) buffer }
+  wrote = record { told = values (length (report-lines.report text) ∷ []); held = written (report-lines.report text) buffer }
 
-  chain : Chain (λ n. turnedDown n buffer) wrote (16 when (length buffer < length (report.report text)) ∷ []) (report.reportText text buffer)
-  chain = test 16 (less (length buffer) (length (report.report text))) (own (λ n. turnedDown n buffer) wrote)
+  chain : Chain (λ n. turnedDown n buffer) wrote (16 when (length buffer < length (report-lines.report text)) ∷ []) (report.reportText text buffer)
+  chain = test 16 (less (length buffer) (length (report-lines.report text))) (own (λ n. turnedDown n buffer) wrote)
 
-  settled : SettlesLent (16 when (length buffer < length (report.report text)) ∷ []) buffer (report.reportText text buffer)
-  settled = settles-lent chain (length (report.report text) ∷ []) refl
+  settled : SettlesLent (16 when (length buffer < length (report-lines.report text)) ∷ []) buffer (report.reportText text buffer)
+  settled = settles-lent chain (length (report-lines.report text) ∷ []) refl
 
   right : (size : ℕ) → report.reportTold (ReportAnswer.Written size) held ≡ report.reportText text buffer
-      → (take size held ≡ report.report text) × (drop size held ≡ drop size buffer)
+      → (take size held ≡ report-lines.report text) × (drop size held ≡ drop size buffer)
   right size e =
       let whole = e ∙ chain .none (settled .settles .answered .0 (size ∷ [], sym (ap (λ (a : Lent). a .told) e))) in
       let told = ap (λ (a : Lent). a .told) whole in
-      let long : size ≡ length (report.report text) = cc in
-      let same : held ≡ written (report.report text) buffer = ap (λ (a : Lent). a .held) whole in
-      (written-front buffer size held (report.report text) long same, written-rest buffer size held (report.report text) long same)
+      let long : size ≡ length (report-lines.report text) = cc in
+      let same : held ≡ written (report-lines.report text) buffer = ap (λ (a : Lent). a .held) whole in
+      (written-front buffer size held (report-lines.report text) long same, written-rest buffer size held (report-lines.report text) long same)
 
   kept : (why : report-refusal.Refusal) → report.reportTold (ReportAnswer.Refused why) held ≡ report.reportText text buffer → held ≡ buffer
   kept why e = ap (λ (a : Lent). a .held) e ∙ settled .kept (report.refusalNumber why) (sym (ap (λ (a : Lent). a .told) e))

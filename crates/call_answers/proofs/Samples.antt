@@ -33,7 +33,8 @@ use Rattle.description.specs.Run.{run}
 use Rattle.reader.specs.Answers.{gives, refused, readText, partCheck}
 use Rattle.pages.specs.Decimal.{decimal}
 use Rattle.verdict_lines.specs.Lines.{notionLine}
-use Rattle.report_text.specs.Report.{functionLine, checked, report, reportText}
+use Rattle.report_lines.specs.Report.{functionLine, checked, report}
+use Rattle.report_text.specs.Report.{reportText}
 use Rattle.plan_text.specs.Answers.{figures, checkSize}
 use Rattle.plan_text.specs.Answers as plan
 use Rattle.call_answers.specs.Calls.{Called, got, answered, lentAnswered, lentJudged, lentRead, sizeAnswered}

@@ -39,7 +39,7 @@ use Rattle.description.specs.Grammar.{Description, Spells}
 use Rattle.reader.specs.Answers.{textPart}
 use Rattle.reader.specs.Reads.{Readable, Given}
 use Rattle.plan_text.specs.Says.{Figures, Refuses}
-use Rattle.report_text.specs.Report.{report, maxReport}
+use Rattle.report_lines.specs.Report.{report, maxReport}
 use Rattle.description.specs.Run.{maxText}
 use Rattle.isw_gadget.specs.Text.{iswText}
 use Rattle.isw_gadget.specs.Answers.{maxIswOrder}

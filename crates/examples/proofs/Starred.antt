@@ -28,7 +28,7 @@ use Rattle.breaking.specs.Breaking.{isBreaking}
 use Rattle.search.specs.Search.{searched}
 use Rattle.pages.specs.Decimal.{decimal}
 use Rattle.verdict_lines.specs.Lines.{notionLine}
-use Rattle.report_text.specs.Report.{functionLine, checked, report}
+use Rattle.report_lines.specs.Report.{functionLine, checked, report}
 use Rattle.examples.specs.Starred.{Case, AllHold, starred, AlsoInGeneral}
 
 -- two parts of a table

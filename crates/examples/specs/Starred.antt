@@ -31,7 +31,8 @@ use Rattle.breaking.specs.Breaking.{isBreaking}
 use Rattle.verdict_answers.specs.Answers.{rangeCheck, setDependence}
 use Rattle.reader.specs.Answers.{ReadTold, gives, refused, readText}
 use Rattle.verdict_lines.specs.Lines.{emptySet}
-use Rattle.report_text.specs.Report.{emptyTable, maxReport, reportText}
+use Rattle.report_lines.specs.Report.{emptyTable, maxReport}
+use Rattle.report_text.specs.Report.{reportText}
 
 -- ---- questions
 

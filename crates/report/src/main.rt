@@ -3,7 +3,7 @@
 // why, which parts of the text compute the wires of a break.
 ghost use Prim.Native.Nat.{_≤_};
 ghost use lib.ListN.{length};
-ghost use Rattle.report_text.specs.Report.{maxReport};
+ghost use Rattle.report_lines.specs.Report.{maxReport};
 use console::input::INPUT_BYTES;
 use console::input::read_input;
 use console::output;

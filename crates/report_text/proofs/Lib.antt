@@ -1,7 +1,3 @@
--- Why the report is what its definition says.
---     Saying    names, by what the function check told and by the notion
---     Reporting the whole report, by what was told
---     Meaning   what the report says of a gadget
-pub mod Saying
+-- Why the report's entry answers what its definition says.
+--     Reporting the report, by the buffer that it is written to
 pub mod Reporting
-pub mod Meaning

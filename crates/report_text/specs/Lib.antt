@@ -1,5 +1,3 @@
 -- The definitions that the promises of `report_text` cite.
---     Report    the report on a text
---     Meaning   what the report says of a gadget
+--     Report    what the report's entry answers
 pub mod Report
-pub mod Meaning

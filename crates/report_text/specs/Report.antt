@@ -1,78 +1,18 @@
--- The report on a text (scope, "Report program and examples"), over what reading, the function check and the verdicts are to tell.
---     orderLine                     order, shares, mask count and wire count
---     saysYes, functionName, functionLine     which function the function check says yes to
---     checked                       the line of the function and those of both notions
---     refusedLine                   the one line of a text that is turned down
---     emptyTable                    what is lent to the reading
---     reported, readReported, report     the whole report
+-- What the report's entry answers (scope, "Report program and examples"), over the lines of the report.
 --     refusalNumber, reportTold     the number of a refusal, and what the code's answer tells, with what the lent buffer then holds
 --     reportText                    what the entry is to tell, and what the buffer is to hold
---     maxReport, RoomEnough         a report is never longer than so many bytes, and a buffer of as many never refused
-use Prim.Native.Nat.{ℕ, _*_, _≤_, _<_}
+--     RoomEnough                    a report is never longer than so many bytes, and a buffer of as many never refused
+use Prim.Native.Nat.{ℕ, _≤_, _<_}
 use mathlib.Core.Path.{_≡_}
-use mathlib.Core.Bool.{Bool, false, cond}
-use mathlib.Core.List.{List, [], _∷_, _++_}
-use lib.Dec.{eqb, ltb}
-use lib.ListN.{length, take, replicate}
-use Rattle.limits.specs.Limits.{recordBytes, maxTableBytes}
-use Rattle.basics.specs.Quoted.{bytes}
-use Rattle.basics.specs.Told.{Told, Lent, values, refusal, turnedDown}
-use Rattle.table.specs.Answers.{functionCheck}
+use mathlib.Core.Bool.{cond}
+use mathlib.Core.List.{List, [], _∷_}
+use lib.Dec.{ltb}
+use lib.ListN.{length}
+use Rattle.basics.specs.Told.{Lent, values, refusal, turnedDown}
 use Rattle.verdict_answers.specs.Answers.{written}
-use Rattle.reader.specs.Answers.{ReadTold, gives, refused, ReadLent, readText}
-use Rattle.pages.specs.Decimal.{decimal}
-use Rattle.verdict_lines.specs.Lines.{notionLine}
+use Rattle.report_lines.specs.Report.{report, maxReport}
 use Rattle.report_text.specs.declared.Refusal.{Refusal}
 use Rattle.report_text.specs.declared.ReportAnswer.{ReportAnswer}
-
--- `order 1 shares 2 masks 1 wires 9`
-abbrev pub orderLine : ℕ → ℕ → ℕ → ℕ → List ℕ
-orderLine order shares masks wires =
-    (bytes "order " ++ decimal order) ++ (bytes " shares " ++ decimal shares) ++ (bytes " masks " ++ decimal masks)
-    ++ (bytes " wires " ++ decimal wires) ++ bytes "\n"
-
--- yes is 1
-abbrev pub saysYes : Told → Bool
-saysYes (values []) = false
-saysYes (values (answer ∷ more)) = eqb answer 1
-saysYes (refusal number) = false
-
--- function is product, sum, copy or other
-abbrev pub functionName : List ℕ → ℕ → ℕ → List ℕ
-functionName table shares masks =
-    cond (saysYes (functionCheck table shares masks 1)) (bytes "product")
-    (cond (saysYes (functionCheck table shares masks 2)) (bytes "sum")
-    (cond (saysYes (functionCheck table shares masks 3)) (bytes "copy")
-    (bytes "other")))
-
-unfoldable pub functionLine : List ℕ → ℕ → ℕ → List ℕ
-functionLine table shares masks = bytes "function " ++ functionName table shares masks ++ bytes "\n"
-
--- the function and both verdicts at the text's own order
-unfoldable pub checked : List ℕ → ℕ → ℕ → ℕ → List ℕ
-checked table order shares masks =
-    functionLine table shares masks ++ notionLine table shares masks 1 order ++ notionLine table shares masks 2 order
-
--- `refused 7 at 31`
-abbrev pub refusedLine : ℕ → ℕ → List ℕ
-refusedLine number offset = (bytes "refused " ++ decimal number) ++ (bytes " at " ++ decimal offset) ++ bytes "\n"
-
-abbrev pub emptyTable : List ℕ
-emptyTable = replicate maxTableBytes 0
-
--- the lines on what was read into a table
-abbrev pub reported : ReadTold → List ℕ → List ℕ
-reported (gives order shares masks wires) table =
-    orderLine order shares masks wires ++ checked (take (recordBytes * wires) table) order shares masks
-reported (refused number offset) table = refusedLine number offset
-
-abbrev pub readReported : ReadLent → List ℕ
-readReported lent = reported (lent .told) (lent .held)
-
-unfoldable pub report : List ℕ → List ℕ
-report text = readReported (readText text emptyTable)
-
--- ---- the entry
 
 -- 16, the buffer is too short
 abbrev pub refusalNumber : Refusal → ℕ
@@ -87,9 +27,6 @@ abbrev pub reportText : List ℕ → List ℕ → Lent
 reportText text buffer =
     cond (ltb (length buffer) (length (report text))) (turnedDown 16 buffer)
     (record { told = values (length (report text) ∷ []); held = written (report text) buffer })
-
-abbrev pub maxReport : ℕ
-maxReport = 512
 
 pub record RoomEnough (answer : ReportAnswer) (room : ℕ) : Type 0 where
   pub short : (size : ℕ) → answer ≡ ReportAnswer.Written size → size ≤ maxReport

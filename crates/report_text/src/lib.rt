@@ -1,11 +1,8 @@
 // The report on a description text (scope, "Report program and examples"): what was read, its function and both verdicts, or the refusal.
-// It sees only what the reader, the function check and the verdict promise. Any text and any buffer may be lent: a buffer that is too short
-// is refused and left as it was.
+// The lines are those of `report_lines`. Any text and any buffer may be lent: a buffer that is too short is refused and left as it was.
 ghost use mathlib.Core.Path.{_≡_};
 ghost use lib.ListN.{length};
 ghost use Rattle.report_text.specs.Report.{refusalNumber, reportTold, reportText, RoomEnough};
-
-mod lines;
 
 // A buffer of so many bytes is never too short.
 pub const MAX_REPORT: usize = 512;
@@ -38,7 +35,7 @@ pub fn report(text: &[u8], buffer: &mut [u8]) -> ReportAnswer
     ensures { λ r. ⌜ RoomEnough r (length (now (buffer .entry))) ⌝ }
 {
     let mut page = [0u8; MAX_REPORT];
-    let length = lines::whole_report(&mut page, text);
+    let length = report_lines::whole_report(&mut page, text);
     if buffer.len() < length {
         return ReportAnswer::Refused(Refusal::BufferTooShort);
     }

@@ -1,5 +1,5 @@
 -- `report::answer` meets its contract: the records of a text that was read are within the table. Assumes nothing.
-use Rattle.report_text.proofs.Reporting.{room-read}
+use Rattle.report_lines.proofs.Reporting.{room-read}
 use borrow.Author.Needs.{needs}
 use Rattle.report.proofs.answer.Statement.{statement}
 use Rattle.report.proofs.answer.Tie as tie

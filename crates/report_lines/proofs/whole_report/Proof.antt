@@ -1,10 +1,10 @@
--- `report_text::lines::whole_report` meets its contract: the line of a refusal, or the four lines of a text that was read.
+-- `report_lines::whole_report` meets its contract: the line of a refusal, or the four lines of a text that was read.
 -- Assumes nothing.
 use native.Mathlib.Omega.{arith}
-use Rattle.report_text.proofs.Reporting.{room-read, refused-reported, read-reported}
+use Rattle.report_lines.proofs.Reporting.{room-read, refused-reported, read-reported}
 use borrow.Author.Needs.{needs}
-use Rattle.report_text.proofs.lines.whole_report.Statement.{statement}
-use Rattle.report_text.proofs.lines.whole_report.Tie as tie
+use Rattle.report_lines.proofs.whole_report.Statement.{statement}
+use Rattle.report_lines.proofs.whole_report.Tie as tie
 
 slice-aggregate-read-text : tie.Need-slice-aggregate-read-text
 slice-aggregate-read-text c = search needs

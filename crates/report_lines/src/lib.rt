@@ -1,10 +1,11 @@
-// The lines of a report, each written to a page where the one before it ends.
+// The lines of a report, each written to a page where the one before it ends. They see only what the reader, the function check and the verdict
+// promise.
 ghost use mathlib.Core.Path.{_≡_};
 ghost use Prim.Native.Nat.{_≤_, _+_};
 ghost use lib.ListN.{length};
 ghost use Rattle.table.specs.Answers.{functionCheck};
 ghost use Rattle.pages.specs.Page.{Wrote};
-ghost use Rattle.report_text.specs.Report.{maxReport, orderLine, saysYes, functionLine, checked, refusedLine, report};
+ghost use Rattle.report_lines.specs.Report.{maxReport, orderLine, saysYes, functionLine, checked, refusedLine, report};
 use limits::MAX_TABLE_BYTES;
 use limits::RECORD_BYTES;
 use pages::write_named;

@@ -1,11 +1,11 @@
--- `report_text::lines::checked_lines` meets its contract: the three lines are written one after the other.
+-- `report_lines::checked_lines` meets its contract: the three lines are written one after the other.
 -- Assumes nothing.
 use native.Mathlib.Omega.{arith}
 use Rattle.pages.proofs.Writing.{wrote-after}
 use borrow.Author.Needs.{needs}
-use Rattle.report_text.specs.Report.{checked}
-use Rattle.report_text.proofs.lines.checked_lines.Statement.{statement}
-use Rattle.report_text.proofs.lines.checked_lines.Tie as tie
+use Rattle.report_lines.specs.Report.{checked}
+use Rattle.report_lines.proofs.checked_lines.Statement.{statement}
+use Rattle.report_lines.proofs.checked_lines.Tie as tie
 
 function-line-requires : tie.Need-function-line-requires
 function-line-requires c κs = search needs

@@ -1,9 +1,9 @@
--- `report_text::lines::computes` meets its contract: it says what the function check's answer tells.
+-- `report_lines::computes` meets its contract: it says what the function check's answer tells.
 -- Assumes nothing.
-use Rattle.report_text.proofs.Saying.{yes-said, no-said, none-said}
+use Rattle.report_lines.proofs.Saying.{yes-said, no-said, none-said}
 use borrow.Author.Needs.{needs}
-use Rattle.report_text.proofs.lines.computes.Statement.{statement}
-use Rattle.report_text.proofs.lines.computes.Tie as tie
+use Rattle.report_lines.proofs.computes.Statement.{statement}
+use Rattle.report_lines.proofs.computes.Tie as tie
 
 function-check-requires : tie.Need-function-check-requires
 function-check-requires c κs = search needs
