@@ -20,7 +20,7 @@ use Rattle.description.specs.Listing.{recordsOf}
 use Rattle.description.specs.Run as run
 use Rattle.description.specs.Run.{refusalNumber}
 use Rattle.description.proofs.Encoding.{length-records}
-use Rattle.reader.specs.declared.ReadAnswer.{ReadAnswer}
+use Rattle.scratch_reader.specs.declared.ReadAnswer.{ReadAnswer}
 use Rattle.reader.specs.declared.PartAnswer.{PartAnswer}
 use Rattle.reader.specs.declared.PartRefusal.{PartRefusal}
 use Rattle.reader.specs.Answers.{gives, refused, ReadLent, tooLarge, lentReading, readTold, readText, partRefusalNumber, partTold, partCheck}

@@ -38,7 +38,7 @@ use Rattle.description.proofs.Counting.{allSymbols, single, lines-count}
 use Rattle.description.proofs.Events.{whole}
 use Rattle.reader.specs.Answers.{gives, ReadLent, readText}
 use Rattle.reader.specs.Reads.{ReadsGrammar}
-use Rattle.reader.specs.declared.ReadAnswer.{ReadAnswer}
+use Rattle.scratch_reader.specs.declared.ReadAnswer.{ReadAnswer}
 use Rattle.reader.proofs.Telling.{large-enough, reads-grammar}
 use Rattle.isw_gadget.specs.Pairs.{pairs}
 use Rattle.isw_gadget.specs.Text.{iswText}

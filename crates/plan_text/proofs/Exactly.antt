@@ -19,7 +19,8 @@ use Rattle.description.specs.Grammar.{Description, Spells, Limits, wiresOf, mas
 use Rattle.description.specs.declared.Listed.{Listed}
 use Rattle.description.specs.declared.Refusal.{Refusal}
 use Rattle.description.proofs.Exactly.{spelled-read, read-spelled, spelled-limits}
-use Rattle.reader.specs.Answers.{gives, tableless}
+use Rattle.scratch_reader.specs.Answers.{tableless}
+use Rattle.reader.specs.Answers.{gives}
 use Rattle.reader.proofs.Telling.{tableless-read}
 use Rattle.plan_text.specs.Answers.{SizeTold, figures, refused, sizeTold, sizeOf, checkSize, counted}
 use Rattle.plan_text.specs.Says.{Figures, Refuses, SizeSays}

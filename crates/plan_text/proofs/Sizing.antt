@@ -19,10 +19,11 @@ use Rattle.description.specs.declared.Listed.{Listed}
 use Rattle.description.specs.declared.Refusal.{Refusal}
 use Rattle.description.specs.declared.Refusal.the-variants.{TooManyWires}
 use Rattle.description.proofs.Exactly.{spelled-read, read-spelled}
-use Rattle.reader.specs.Answers.{ReadLent, tableless}
+use Rattle.reader.specs.Answers.{ReadLent}
 use Rattle.reader.specs.Reads.{Readable}
-use Rattle.reader.specs.Scratch.{ScratchReads}
-use Rattle.reader.specs.declared.ReadAnswer.{ReadAnswer}
+use Rattle.scratch_reader.specs.Answers.{tableless}
+use Rattle.scratch_reader.specs.Scratch.{ScratchReads}
+use Rattle.scratch_reader.specs.declared.ReadAnswer.{ReadAnswer}
 use Rattle.reader.proofs.Telling.{tableless-read, tableless-down, too-large, large-enough}
 use Rattle.plan_text.specs.Answers.{figures, sizeTold, counted, sizeOf, checkSize}
 use Rattle.plan_text.specs.Says.{OverMany, Figures, SizeSays}

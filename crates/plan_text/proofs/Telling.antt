@@ -21,8 +21,9 @@ use Rattle.description.specs.Grammar.{Description, Spells, Limits, wiresOf, mas
 use Rattle.description.specs.declared.Refusal.{Refusal}
 use Rattle.description.specs.declared.Refusal.the-variants.{TooManyWires}
 use Rattle.description.proofs.Exactly.{spelled-read, read-spelled}
+use Rattle.scratch_reader.specs.Answers.{tableless}
 use Rattle.reader.specs.Answers as reader
-use Rattle.reader.specs.Answers.{gives, tableless, readText}
+use Rattle.reader.specs.Answers.{gives, readText}
 use Rattle.reader.proofs.Telling.{tableless-read}
 use Rattle.plan_text.specs.Answers.{figures, refused, sizeOf, checkSize, setCounts, counted, totalOf}
 use Rattle.plan_text.specs.Says.{OverMany, SizeSays}

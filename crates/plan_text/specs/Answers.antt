@@ -16,7 +16,7 @@ use Rattle.limits.specs.Limits.{maxOrder, recordBytes}
 use Rattle.basics.specs.Folds.{fold}
 use Rattle.counts.specs.Counts.{binom}
 use Rattle.description.specs.Run.{refusalNumber, Reading, read, turnedDown, reading}
-use Rattle.reader.specs.Answers.{tableless}
+use Rattle.scratch_reader.specs.Answers.{tableless}
 use Rattle.plan_text.specs.declared.SizeAnswer.{SizeAnswer}
 use Rattle.plan_text.specs.declared.CheckSize.{CheckSize}
 

@@ -11,8 +11,8 @@ use description::Refusal;
 use limits::MAX_ORDER;
 use limits::MAX_TABLE_BYTES;
 use limits::RECORD_BYTES;
-use reader::ReadAnswer;
-use reader::scratch::read_scratch;
+use scratch_reader::ReadAnswer;
+use scratch_reader::read_scratch;
 
 // The figures of a text, the bytes of the table that it needs among them; or why the text is turned down, and the byte offset.
 pub enum SizeAnswer {

@@ -1,10 +1,8 @@
 -- What the proofs of several functions use.
---     Heading      the whole text: its header, and what is then read
 --     Telling      what reading tells, and what the answer then says of the text's grammar
 --     Conditions   which call gets which number
 --     Parts        what the check of a text part tells
 --     Samples      examples, proved by running the definitions
-pub mod Heading
 pub mod Conditions
 pub mod Parts
 pub mod Telling

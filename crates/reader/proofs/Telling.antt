@@ -31,11 +31,12 @@ use Rattle.description.specs.declared.Refusal.the-variants.{TooManyWires}
 use Rattle.description.proofs.Encoding.{length-records, record-count}
 use Rattle.description.proofs.Exactly.{spelled-read, read-spelled, spelled-limits}
 use Rattle.description.proofs.Tables.{wires-mean, places-mean, parts-within, table-passes}
-use Rattle.reader.specs.Answers.{ReadLent, gives, refused, readTold, tableless, tooLarge, lentReading, readText, partCheck}
-use Rattle.reader.specs.Scratch.{Scratched}
+use Rattle.reader.specs.Answers.{ReadLent, gives, refused, readTold, tooLarge, lentReading, readText, partCheck}
+use Rattle.scratch_reader.specs.Answers.{tableless}
+use Rattle.scratch_reader.specs.Scratch.{Scratched}
 use Rattle.reader.specs.Reads.{Readable, Given, ReadsGrammar}
 use Rattle.reader.proofs.Parts.{part-exactly}
-use Rattle.reader.specs.declared.ReadAnswer.{ReadAnswer}
+use Rattle.scratch_reader.specs.declared.ReadAnswer.{ReadAnswer}
 
 pub tableless-read : (text : List ℕ) (order masks : ℕ) (ws : List Listed) → tableless text (reading text) ≡ read order masks ws
     → (reading text ≡ read order masks ws) × (length ws ≤ maxWires)

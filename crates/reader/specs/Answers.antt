@@ -2,7 +2,6 @@
 --     ReadTold            the values of a text that was read, or the number and byte offset of a refusal
 --     ReadLent            what is told, with what the lent table then holds
 --     readTold            what the code's answer tells
---     tableless           what reading comes to where no table is lent: refusal 10 for over 512 wires alone
 --     tooLarge            refusal 10 where a table is lent
 --     lentReading, readText     what reading is to tell, and what the lent table then holds
 --     partRefusalNumber, partTold     the numbers of a text part's refusals, and what its answer tells
@@ -20,8 +19,7 @@ use Rattle.records.specs.Layout.{recordAt, wireCount, offsetOf, lengthOf}
 use Rattle.table.specs.Answers.{wrongLength}
 use Rattle.description.specs.Listing.{recordsOf}
 use Rattle.description.specs.Run.{refusalNumber, Reading, read, turnedDown, reading}
-use Rattle.description.specs.declared.Refusal.the-variants.{TooManyWires}
-use Rattle.reader.specs.declared.ReadAnswer.{ReadAnswer}
+use Rattle.scratch_reader.specs.declared.ReadAnswer.{ReadAnswer}
 use Rattle.reader.specs.declared.PartRefusal.{PartRefusal}
 use Rattle.reader.specs.declared.PartAnswer.{PartAnswer}
 
@@ -36,10 +34,6 @@ pub record ReadLent : Type 0 where
 abbrev pub readTold : ReadAnswer → List ℕ → ReadLent
 readTold (ReadAnswer.Read order shares masks wires) held = record { told = gives order shares masks wires; held = held }
 readTold (ReadAnswer.Refused why offset) held = record { told = refused (refusalNumber why) offset; held = held }
-
-abbrev pub tableless : List ℕ → Reading → Reading
-tableless text (turnedDown why offset) = turnedDown why offset
-tableless text (read order masks ws) = cond (ltb maxWires (length ws)) (turnedDown TooManyWires (length text)) (read order masks ws)
 
 -- 10: over 512 wires or lent table too short
 abbrev pub tooLarge : List ℕ → ℕ → Bool

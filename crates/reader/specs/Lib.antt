@@ -2,8 +2,6 @@
 --     Answers    each answer in the scope's own numbers, and what each entry answers
 --     Conditions what the check of a text part turns down, in the order in which it is tested
 --     Reads      what an answer of reading says of the text's grammar
---     Scratch    what reading into a table of the code's own has found: for reading and for the size of a check, no entry cites it
 pub mod Answers
 pub mod Conditions
 pub mod Reads
-pub mod Scratch

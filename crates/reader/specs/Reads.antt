@@ -16,7 +16,7 @@ use Rattle.description.specs.Grammar.{Description, Spells, Limits, wiresOf, mas
 use Rattle.description.specs.declared.Listed.{Listed}
 use Rattle.description.specs.declared.Refusal.{Refusal}
 use Rattle.reader.specs.Answers.{partCheck}
-use Rattle.reader.specs.declared.ReadAnswer.{ReadAnswer}
+use Rattle.scratch_reader.specs.declared.ReadAnswer.{ReadAnswer}
 
 pub record Readable (text : List ℕ) (room : ℕ) : Type 0 where
   pub description : Description

@@ -1,5 +1,6 @@
 // The reader of descriptions, and the text part of a wire (scope, "The description text", "Wires" and "What each operation turns down").
 // Every argument may be anything its type holds: what is out of range is refused, in the scope's order, and a refusal alters no lent byte.
+// The type of reading's answer is passed on from `scratch_reader`.
 ghost use mathlib.Core.Path.{_≡_};
 ghost use Prim.Native.Nat.{_≤_, _+_};
 ghost use denote.Ref.{ptr};
@@ -11,22 +12,7 @@ use description::Refusal;
 use limits::MAX_TABLE_BYTES;
 use limits::RECORD_BYTES;
 use records::layout::text_place;
-
-pub mod scratch;
-
-// A text that was read gives its order, shares, mask count and wire count; one that is turned down, why and the byte offset.
-pub enum ReadAnswer {
-    Read {
-        order: usize,
-        shares: usize,
-        masks: usize,
-        wires: usize,
-    },
-    Refused {
-        why: Refusal,
-        offset: usize,
-    },
-}
+pub use scratch_reader::ReadAnswer;
 
 // Why a text part is refused.
 pub enum PartRefusal {
@@ -60,7 +46,7 @@ pub fn read_text(text: &[u8], table: &mut [u8]) -> ReadAnswer
     ensures { λ r. ⌜ ReadsGrammar r (now (text .entry)) (length (now (table .entry))) (now (table .exit)) ⌝ }
 {
     let mut scratch = [0u8; MAX_TABLE_BYTES];
-    let read = scratch::read_scratch(text, &mut scratch);
+    let read = scratch_reader::read_scratch(text, &mut scratch);
     match read {
         ReadAnswer::Refused { why, offset } => ReadAnswer::Refused {
             why: why,

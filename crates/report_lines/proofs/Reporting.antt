@@ -8,7 +8,7 @@ use mathlib.Core.List.{List}
 use lib.ListN.{take}
 use Rattle.limits.specs.Limits.{recordBytes}
 use Rattle.description.specs.Run as description
-use Rattle.reader.specs.declared.ReadAnswer.{ReadAnswer}
+use Rattle.scratch_reader.specs.declared.ReadAnswer.{ReadAnswer}
 use Rattle.reader.specs.Answers.{ReadLent, readTold, readText}
 use Rattle.reader.specs.Reads.{ReadsGrammar}
 use Rattle.description.specs.declared.Refusal as reading

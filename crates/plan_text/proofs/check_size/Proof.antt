@@ -1,8 +1,8 @@
 -- `plan_text::check_size` meets its contract: reading's figures and the set counts' numbers, or reading's refusal.
 -- Assumes nothing.
 use mathlib.Core.Path.{subst}
-use Rattle.reader.specs.Scratch.{ScratchReads}
-use Rattle.reader.specs.declared.ReadAnswer.{ReadAnswer}
+use Rattle.scratch_reader.specs.Scratch.{ScratchReads}
+use Rattle.scratch_reader.specs.declared.ReadAnswer.{ReadAnswer}
 use Rattle.plan_text.proofs.Sizing.{gave, turned-down}
 use borrow.Author.Needs.{needs}
 use Rattle.plan_text.proofs.check_size.Statement.{statement}

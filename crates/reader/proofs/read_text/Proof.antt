@@ -1,8 +1,8 @@
 -- `reader::read_text` meets its contract: what was read into the code's own table is copied where there is room, and nothing else is written.
 -- Assumes nothing.
 use mathlib.Core.Path.{subst}
-use Rattle.reader.specs.Scratch.{ScratchReads}
-use Rattle.reader.specs.declared.ReadAnswer.{ReadAnswer}
+use Rattle.scratch_reader.specs.Scratch.{ScratchReads}
+use Rattle.scratch_reader.specs.declared.ReadAnswer.{ReadAnswer}
 use Rattle.reader.proofs.Telling.{read-refused, read-short, read-copied, promised}
 use borrow.Author.Needs.{needs}
 use Rattle.reader.proofs.read_text.Statement.{statement}

@@ -1,4 +1,4 @@
--- `reader::scratch::second_line` meets its contract: ten bytes on, or at the text's end.
+-- `scratch_reader::second_line` meets its contract: ten bytes on, or at the text's end.
 -- Assumes nothing.
 use Prim.Native.Nat.{ℕ}
 use mathlib.Core.Path.{sym, ap}
@@ -6,8 +6,8 @@ use mathlib.Core.Bool.{Bool, cond}
 use borrow.Author.Tests.{lt-ltb, le-ltb}
 use lib.ListN.{length}
 use Rattle.description.specs.Run.{secondAt}
-use Rattle.reader.proofs.scratch.second_line.Statement.{statement}
-use Rattle.reader.proofs.scratch.second_line.Tie as tie
+use Rattle.scratch_reader.proofs.second_line.Statement.{statement}
+use Rattle.scratch_reader.proofs.second_line.Tie as tie
 
 returns : tie.Need-returns
 returns c = sym (ap (λ (b : Bool). cond {A = ℕ} b (length (c .before .args .text .now)) secondAt) (lt-ltb _ _ (c .if1 .taken)))

@@ -1,9 +1,9 @@
--- `reader::scratch::read_second` meets its contract: the second line is refused, or the output lines go on from its end.
+-- `scratch_reader::read_second` meets its contract: the second line is refused, or the output lines go on from its end.
 -- Assumes nothing.
-use Rattle.reader.proofs.Heading.{second-inside, second-wrong, second-declared, masks-inside}
+use Rattle.scratch_reader.proofs.Heading.{second-inside, second-wrong, second-declared, masks-inside}
 use borrow.Author.Needs.{needs}
-use Rattle.reader.proofs.scratch.read_second.Statement.{statement}
-use Rattle.reader.proofs.scratch.read_second.Tie as tie
+use Rattle.scratch_reader.proofs.read_second.Statement.{statement}
+use Rattle.scratch_reader.proofs.read_second.Tie as tie
 
 second-line-requires : tie.Need-second-line-requires
 second-line-requires c κs = search needs

@@ -1,10 +1,10 @@
--- `reader::scratch::read_scratch` meets its contract: a text too long and a wrong first line are refused; then the second line is read.
+-- `scratch_reader::read_scratch` meets its contract: a text too long and a wrong first line are refused; then the second line is read.
 -- Assumes nothing.
 use mathlib.Core.Path.{sym, _∙_}
-use Rattle.reader.proofs.Heading.{text-long, first-wrong, first-given}
+use Rattle.scratch_reader.proofs.Heading.{text-long, first-wrong, first-given}
 use borrow.Author.Needs.{needs}
-use Rattle.reader.proofs.scratch.read_scratch.Statement.{statement}
-use Rattle.reader.proofs.scratch.read_scratch.Tie as tie
+use Rattle.scratch_reader.proofs.read_scratch.Statement.{statement}
+use Rattle.scratch_reader.proofs.read_scratch.Tie as tie
 
 returns : tie.Need-returns
 returns c = text-long (c .before .before .before .args .text .now) (c .before .before .before .args .scratch .now) (c .if1 .taken)

@@ -24,9 +24,9 @@ use Rattle.description.specs.declared.Refusal.the-variants.{TextTooLong, WrongO
 use Rattle.description.proofs.HeaderLines.{header-spelled}
 use Rattle.listing.specs.declared.Progress.{Progress}
 use Rattle.output_lines.specs.Going.{AllRead}
-use Rattle.reader.specs.Answers.{tableless}
-use Rattle.reader.specs.Scratch.{OutcomeRead, LinesListed, SecondReads, ScratchReads}
-use Rattle.reader.specs.declared.ReadAnswer.{ReadAnswer}
+use Rattle.scratch_reader.specs.Answers.{tableless}
+use Rattle.scratch_reader.specs.Scratch.{OutcomeRead, LinesListed, SecondReads, ScratchReads}
+use Rattle.scratch_reader.specs.declared.ReadAnswer.{ReadAnswer}
 
 module _ (text : List ℕ) (order : ℕ) (m : Masks) where
   pub lines-refused : (scratch : List ℕ) (why : Refusal) (offset : ℕ)

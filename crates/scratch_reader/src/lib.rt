@@ -7,8 +7,7 @@ ghost use Rattle.limits.specs.Limits.{maxOrder, maxTableBytes};
 ghost use Rattle.description.specs.Header.{orderLine};
 ghost use Rattle.description.specs.Run.{secondLine, maxText};
 ghost use Rattle.description.specs.declared.OrderLine.{OrderLine};
-ghost use Rattle.reader.specs.Scratch.{LinesListed, SecondReads, ScratchReads};
-use super::ReadAnswer;
+ghost use Rattle.scratch_reader.specs.Scratch.{LinesListed, SecondReads, ScratchReads};
 use description::MAX_TEXT_BYTES;
 use description::Masks;
 use description::MasksLine;
@@ -19,6 +18,20 @@ use header_lines::masks_line;
 use header_lines::order_line;
 use limits::MAX_WIRES;
 use output_lines::lines;
+
+// A text that was read gives its order, shares, mask count and wire count; one that is turned down, why and the byte offset.
+pub enum ReadAnswer {
+    Read {
+        order: usize,
+        shares: usize,
+        masks: usize,
+        wires: usize,
+    },
+    Refused {
+        why: Refusal,
+        offset: usize,
+    },
+}
 
 // Where the second line starts: `ORDER = `, a digit and a line end stand before it.
 const SECOND_LINE: usize = 10;

@@ -1,13 +1,13 @@
--- `reader::scratch::read_lines` meets its contract: what the lines gave is what the run gives, and over 512 wires are a 10.
+-- `scratch_reader::read_lines` meets its contract: what the lines gave is what the run gives, and over 512 wires are a 10.
 -- Assumes nothing.
 use Prim.Native.Nat.{_+_}
 use mathlib.Core.Path.{subst}
 use Rattle.output_lines.specs.Going.{LinesRead}
 use Rattle.groups.specs.declared.Answer.{Answer}
-use Rattle.reader.proofs.Heading.{lines-refused, lines-many, lines-scratched}
+use Rattle.scratch_reader.proofs.Heading.{lines-refused, lines-many, lines-scratched}
 use borrow.Author.Needs.{needs}
-use Rattle.reader.proofs.scratch.read_lines.Statement.{statement}
-use Rattle.reader.proofs.scratch.read_lines.Tie as tie
+use Rattle.scratch_reader.proofs.read_lines.Statement.{statement}
+use Rattle.scratch_reader.proofs.read_lines.Tie as tie
 
 add-lines : tie.Need-add-lines
 add-lines c = search needs

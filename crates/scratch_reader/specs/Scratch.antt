@@ -12,8 +12,8 @@ use Rattle.description.specs.Header.{masksLine}
 use Rattle.description.specs.Run.{start, runAt, secondAt, Reading, read, turnedDown, listed, afterMasks, reading}
 use Rattle.description.specs.declared.Listed.{Listed}
 use Rattle.description.specs.declared.Masks.{Masks}
-use Rattle.reader.specs.Answers.{tableless}
-use Rattle.reader.specs.declared.ReadAnswer.{ReadAnswer}
+use Rattle.scratch_reader.specs.Answers.{tableless}
+use Rattle.scratch_reader.specs.declared.ReadAnswer.{ReadAnswer}
 
 pub record Scratched (outcome : Reading) (scratch : List ℕ) (order shares masks wires : ℕ) : Type 0 where
   pub listed-wires : List Listed
