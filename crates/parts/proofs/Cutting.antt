@@ -1,0 +1,163 @@
+-- What a breaking set of least size has in each of its parts: a mask, which a wire outside the part carries.
+--     count-either              what is counted by one of two tests or by the other
+--     depends-plus, more-seen   a sum of two depends on no share on which neither does, and so on no more shares than both
+--     cut                       where a breaking set is cut into two parts and the sum of one has no mask, one of the two breaks
+--     part-masked               so each part of a breaking set of least size has a mask, but for none and all of it
+--     carrier                   a mask of a part's sum that the set's sum has not is carried by a wire outside the part
+use Prim.Native.Nat.{ℕ, _+_, _≤_, _<_}
+use native.Mathlib.Nat.{zero-add}
+use native.Mathlib.Decide.{decLt}
+use native.Mathlib.Omega.{arith}
+use mathlib.Core.Path.{_≡_, refl, sym, _∙_, ap, ap₂, subst}
+use mathlib.Core.Logic.{_⊎_, inl, inr}
+use mathlib.Core.Bool.{Bool, true, false, cond, _||_, xor, true≢false}
+use mathlib.Core.List.{List, [], _∷_, map}
+use lib.ListN.{length}
+use Rattle.basics.specs.Folds.{fold, parity, some, count, oneIf, upTo}
+use Rattle.basics.proofs.Tests.{or-left, or-right, or-cases, false-xor, xor-false}
+use Rattle.basics.proofs.Folds.{fold-hom, fold-below, fold-unit, some-at, some-where, never, none-below}
+use Rattle.wires.specs.declared.Notion.{Notion}
+use Rattle.wires.specs.Wires.{Terms, Wire, none, plus, total, swap, dependsA, countA, countB, masked, allowed, breaks}
+use Rattle.wires.proofs.Breaks.{breaks-counts}
+use Rattle.parts.specs.Parts.{members, Parted, NoneBelow}
+use Rattle.parts.proofs.Sums.{sum, paid, fold-members, sum-parted, paid-parted, length-parted}
+use Rattle.wires.proofs.Value.{none-plus}
+
+pub count-either : {A : Type 0} (f g h : A → Bool) (l : List A) → ((x : A) → f x ≡ true → (g x ≡ true) ⊎ (h x ≡ true)) → count f l ≤ count g l + count h l
+count-either f g h [] e = omega arith
+count-either f g h (x ∷ l) e = go (f x) (g x) (h x) (e x) (count-either f g h l e)
+  where
+    go : (a b c : Bool) → (a ≡ true → (b ≡ true) ⊎ (c ≡ true)) → count f l ≤ count g l + count h l
+        → oneIf a + count f l ≤ oneIf b + count g l + (oneIf c + count h l)
+    go true true c k ih = omega arith
+    go true false true k ih = omega arith
+    go true false false k ih = let z = k refl in absurd (neither z)
+      where
+        neither : (false ≡ true) ⊎ (false ≡ true) → ⊥
+        neither (inl q) = true≢false (sym q)
+        neither (inr q) = true≢false (sym q)
+    go false b c k ih = omega arith
+
+xor-either : (a b : Bool) → xor a b ≡ true → (a ≡ true) ⊎ (b ≡ true)
+xor-either true b e = inl refl
+xor-either false b e = inr (sym (false-xor b) ∙ e)
+
+module _ (n : ℕ) (t u : Terms) where
+  pub depends-plus : (i : ℕ) → dependsA n (plus t u) i ≡ true → (dependsA n t i ≡ true) ⊎ (dependsA n u i ≡ true)
+  depends-plus i e = go (or-cases (some (plus t u .product i) (upTo n)) (plus t u .shareA i) e)
+    where
+      go : (some (plus t u .product i) (upTo n) ≡ true) ⊎ (plus t u .shareA i ≡ true) → (dependsA n t i ≡ true) ⊎ (dependsA n u i ≡ true)
+      go (inl p) = let r = some-where n (plus t u .product i) p in by (r .0) (r .1) (xor-either (t .product i (r .0)) (u .product i (r .0)) (r .2))
+        where
+          by : (j : ℕ) → j < n → (t .product i j ≡ true) ⊎ (u .product i j ≡ true) → (dependsA n t i ≡ true) ⊎ (dependsA n u i ≡ true)
+          by j h (inl q) = inl (or-left (some (t .product i) (upTo n)) (t .shareA i) (some-at n j (t .product i) h q))
+          by j h (inr q) = inr (or-left (some (u .product i) (upTo n)) (u .shareA i) (some-at n j (u .product i) h q))
+      go (inr p) = single (xor-either (t .shareA i) (u .shareA i) p)
+        where
+          single : (t .shareA i ≡ true) ⊎ (u .shareA i ≡ true) → (dependsA n t i ≡ true) ⊎ (dependsA n u i ≡ true)
+          single (inl q) = inl (or-right (some (t .product i) (upTo n)) (t .shareA i) q)
+          single (inr q) = inr (or-right (some (u .product i) (upTo n)) (u .shareA i) q)
+
+  pub more-seen : countA n (plus t u) ≤ countA n t + countA n u
+  unfolding countA
+  more-seen = count-either (dependsA n (plus t u)) (dependsA n t) (dependsA n u) (upTo n) depends-plus
+
+module _ (notion : Notion) (shares masks : ℕ) (wire : ℕ → Wire) (n : ℕ) where
+  abbrev pub broken : (ℕ → Bool) → Bool
+  broken s = breaks notion shares masks (map wire (members n s))
+
+  module _ (s p q : ℕ → Bool) (parted : Parted n s p q) where
+    abbrev whole : sum wire n s ≡ plus (sum wire n p) (sum wire n q)
+    whole = sum-parted wire n s p q parted
+
+    abbrev left : Terms
+    left = sum wire n p
+
+    abbrev right : Terms
+    right = sum wire n q
+
+    -- the other part has no mask either
+    none-left : masked masks (sum wire n s) ≡ false → masked masks left ≡ false → masked masks right ≡ false
+    unfolding masked
+    none-left a b =
+        none-below masks (right .mask)
+        (λ k h. sym (false-xor (right .mask k)) ∙ ap (λ (z : Bool). xor z (right .mask k)) (sym (never masks k (left .mask) b h))
+        ∙ ap (λ (t : Terms). t .mask k) (sym whole) ∙ never masks k (sum wire n s .mask) a h)
+
+    pub cut : broken s ≡ true → masked masks left ≡ false → (broken p ≡ true) ⊎ (broken q ≡ true)
+    cut e free =
+        let b = breaks-counts notion shares masks (map wire (members n s)) .0 e in
+        go (none-left (b .0) free) (b .1)
+      where
+        pay : paid wire n notion s ≡ paid wire n notion p + paid wire n notion q
+        pay = paid-parted wire n notion s p q parted
+
+        a-seen : countA shares (sum wire n s) ≤ countA shares left + countA shares right
+        a-seen = subst (λ (t : Terms). countA shares t ≤ countA shares left + countA shares right) (sym whole) (more-seen shares left right)
+
+        b-seen : countB shares (sum wire n s) ≤ countB shares left + countB shares right
+        b-seen = subst (λ (t : Terms). countB shares t ≤ countB shares left + countB shares right) (sym whole) (more-seen shares (swap left) (swap right))
+
+        go : masked masks right ≡ false
+            → (paid wire n notion s < countA shares (sum wire n s)) ⊎ (paid wire n notion s < countB shares (sum wire n s))
+            → (broken p ≡ true) ⊎ (broken q ≡ true)
+        go none (inl h) = pick (decLt (paid wire n notion p) (countA shares left))
+          where
+            pick : Dec (paid wire n notion p < countA shares left) → (broken p ≡ true) ⊎ (broken q ≡ true)
+            pick (yes k) = inl (breaks-counts notion shares masks (map wire (members n p)) .1 (free, inl k))
+            pick (no k) = inr (breaks-counts notion shares masks (map wire (members n q)) .1 (none, inl (omega (arith, h, pay, a-seen))))
+        go none (inr h) = pick (decLt (paid wire n notion p) (countB shares left))
+          where
+            pick : Dec (paid wire n notion p < countB shares left) → (broken p ≡ true) ⊎ (broken q ≡ true)
+            pick (yes k) = inl (breaks-counts notion shares masks (map wire (members n p)) .1 (free, inr k))
+            pick (no k) = inr (breaks-counts notion shares masks (map wire (members n q)) .1 (none, inr (omega (arith, h, pay, b-seen))))
+
+    pub carrier : (k : ℕ) → sum wire n s .mask k ≡ false → left .mask k ≡ true → (w : ℕ) × (w < n) × (q w ≡ true) × (wire w .terms .mask k ≡ true)
+    carrier k gone has = found (right .mask k) refl
+      where
+        one-of : xor (left .mask k) (right .mask k) ≡ false
+        one-of = ap (λ (t : Terms). t .mask k) (sym whole) ∙ gone
+
+        bit : ℕ → Bool
+        bit w = cond (q w) (wire w .terms .mask k) false
+
+        as-bits : right .mask k ≡ parity bit (upTo n)
+        as-bits =
+            ap (λ (t : Terms). t .mask k) (fold-members plus none none-plus wire (λ w. w .terms) n q)
+            ∙ fold-hom plus none xor false (λ t. t .mask k) refl (λ t u. refl) (λ w. cond (q w) (wire w .terms) none) (upTo n)
+            ∙ fold-below xor false n (λ w. cond (q w) (wire w .terms) none .mask k) bit (λ w h. each (q w) (wire w .terms))
+          where
+            each : (b : Bool) (t : Terms) → cond b t none .mask k ≡ cond b (t .mask k) false
+            each true t = refl
+            each false t = refl
+
+        some-bit : (b : Bool) → some bit (upTo n) ≡ b → parity bit (upTo n) ≡ true → (w : ℕ) × (w < n) × (q w ≡ true) × (wire w .terms .mask k ≡ true)
+        some-bit true e p = let r = some-where n bit e in let h = both (q (r .0)) (wire (r .0) .terms .mask k) (r .2) in (r .0, r .1, h .0, h .1)
+          where
+            both : (a b : Bool) → cond a b false ≡ true → (a ≡ true) × (b ≡ true)
+            both true b e = (refl, e)
+            both false b e = absurd (true≢false (sym e))
+        some-bit false e p =
+            let none : parity bit (upTo n) ≡ false = fold-below xor false n bit (λ w. false) (λ w h. never n w bit e h)
+            ∙ fold-unit xor false false-xor (λ w. false) (upTo n) (λ w. refl) in
+            absurd (true≢false (sym p ∙ none))
+
+        found : (b : Bool) → right .mask k ≡ b → (w : ℕ) × (w < n) × (q w ≡ true) × (wire w .terms .mask k ≡ true)
+        found true e = some-bit (some bit (upTo n)) refl (sym as-bits ∙ e)
+        found false e = absurd (true≢false (sym (ap₂ xor has e ∙ xor-false true) ∙ one-of))
+
+  pub part-masked : (s p q : ℕ → Bool) → Parted n s p q → NoneBelow (λ l. breaks notion shares masks (map wire l)) n (length (members n s))
+      → broken s ≡ true → 0 < length (members n p) → 0 < length (members n q) → masked masks (sum wire n p) ≡ true
+  unfolding NoneBelow
+  part-masked s p q parted least e some-p some-q = go (masked masks (sum wire n p)) refl
+    where
+      both : length (members n s) ≡ length (members n p) + length (members n q)
+      both = length-parted n s p q parted
+
+      neither : (broken p ≡ true) ⊎ (broken q ≡ true) → ⊥
+      neither (inl b) = true≢false (sym b ∙ least p (omega (arith, both, some-p, some-q)))
+      neither (inr b) = true≢false (sym b ∙ least q (omega (arith, both, some-p, some-q)))
+
+      go : (b : Bool) → masked masks (sum wire n p) ≡ b → b ≡ true
+      go true k = refl
+      go false k = absurd (neither (cut s p q parted e k))
