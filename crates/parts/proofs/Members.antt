@@ -5,7 +5,6 @@
 --     members-is-set    they are a set
 --     a-test            every set is the members of a test
 --     rest, rest-parted the wires of a set outside a part of it
---     no-rest           a part with as many wires as the set is the set
 use Prim.Native.Nat.{ℕ, zero, suc, _+_, _≤_, _<_}
 use native.Mathlib.Nat.{not-suc-le-zero, zero-add}
 use native.Mathlib.Decide.{decLt}

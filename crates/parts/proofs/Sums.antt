@@ -1,17 +1,18 @@
 -- Sums and counts over a set and over its parts.
 --     fold-members     a fold over the members, as one over all wires
 --     fold-parted      a fold over a set is put together from those over its parts
---     fold-one         a fold over one wire
 --     plus-comm        terms are added in any order
 --     sum, paid        the terms of a set added up, and how many of its wires pay
 --     sum-parted, paid-parted, length-parted     they are put together from those of its parts
 --     sum-one, paid-one, length-one              those of one wire
+--     length-some, length-none                   a set with a wire has members, and one without members has no wire
 use Prim.Native.Nat.{ℕ, _+_, _<_}
 use native.Mathlib.Nat.{zero-add, add-zero, add-comm, add-assoc}
 use native.Mathlib.Omega.{arith}
 use mathlib.Core.Path.{_≡_, refl, sym, _∙_, ap, ap₂}
 use mathlib.Core.Bool.{Bool, true, false, cond}
 use mathlib.Core.List.{List, [], _∷_, map}
+use borrow.Author.Tests.{eqb-true}
 use lib.Dec.{eqb}
 use lib.ListN.{length}
 use Rattle.basics.specs.Folds.{fold, count, keep, oneIf, upTo}
@@ -21,7 +22,7 @@ use Rattle.wires.specs.declared.Notion.{Notion}
 use Rattle.wires.specs.Wires.{Terms, Wire, none, plus, total, pays, allowed}
 use Rattle.wires.proofs.Value.{terms-ext, plus-none, none-plus, plus-assoc}
 use Rattle.parts.specs.Parts.{members, Parted}
-use Rattle.parts.proofs.Members.{members-length}
+use Rattle.parts.proofs.Members.{members-length, rest, rest-parted}
 
 module _ {B : Type 0} (op : B → B → B) (e : B) (unit : (x : B) → op e x ≡ x) where
   pub fold-members : {A : Type 0} (wire : ℕ → A) (f : A → B) (n : ℕ) (s : ℕ → Bool)
@@ -103,3 +104,17 @@ length-parted n s p q h =
 pub length-one : (n x : ℕ) → x < n → length (members n (λ w. eqb w x)) ≡ 1
 length-one n x h =
     members-length n (λ w. eqb w x) ∙ fold-pick _+_ 0 zero-add add-zero n x (λ w. 1) h
+
+-- a wire of a set is one of its members
+pub length-some : (n x : ℕ) (s : ℕ → Bool) → x < n → s x ≡ true → 0 < length (members n s)
+length-some n x s h e =
+    let both = length-parted n s (λ w. eqb w x) (rest s (λ w. eqb w x)) (rest-parted n s (λ w. eqb w x) (λ w k p. ap s (eqb-true w x p) ∙ e)) in
+    omega (arith, both, length-one n x h)
+
+-- and so a set with no members has no wire
+pub length-none : (n x : ℕ) (s : ℕ → Bool) → x < n → length (members n s) ≡ 0 → s x ≡ false
+length-none n x s h e = go (s x) refl
+  where
+    go : (b : Bool) → s x ≡ b → b ≡ false
+    go true p = let some = length-some n x s h p in let z : ⊥ = omega (arith, some, e) in absurd z
+    go false p = refl

@@ -1,0 +1,166 @@
+// The descent of a directed search (docs/DECISIONS.md, "The directed verdict"): from some wires to all breaking sets of a size that have them. It goes on only
+// with wires that carry one chosen mask of the sum so far. These functions ask what the entries have tested.
+ghost use mathlib.Core.Path.{_≡_};
+ghost use Prim.Native.Nat.{_+_, _≤_, _<_};
+ghost use mathlib.Core.Bool.{true};
+ghost use lib.ListN.{length, take};
+ghost use Rattle.limits.specs.Limits.{maxShares, maxMasks, maxTableBytes, maxWires, maxSize};
+ghost use Rattle.counts.specs.Counts.{Counts};
+ghost use Rattle.revolving.specs.Order.{rankOf};
+ghost use Rattle.shares.specs.Ones.{Ones};
+ghost use Rattle.records.specs.Layout.{wireCount, termsOf};
+ghost use Rattle.breaking.specs.Breaking.{isBreaking};
+ghost use Rattle.parts.specs.Parts.{members, NoneBelow};
+ghost use Rattle.carriers.specs.Carriers.{Carriers};
+ghost use Rattle.wires.specs.Wires.{masked, sumBreaks};
+ghost use Rattle.descent.specs.Marks.{isChosen, Node, Settled, Looked};
+use breaking::is_masked;
+use breaking::pay;
+use breaking::sum_breaks;
+use carriers::CARRIERS;
+use carriers::highest_below;
+use limits::COUNTS;
+use limits::MAX_MASKS;
+use limits::MAX_SIZE;
+use limits::MAX_WIRES;
+use limits::RECORD_BYTES;
+use rarity::rarest;
+use records::sums::Sum;
+use records::sums::with_wire;
+use revolving::rank;
+use shares::ones::WORDS;
+use wires::Notion;
+
+// What a search may still do with a wire: take it, nothing, or nothing since it is taken.
+pub const OPEN: u8 = 0;
+
+pub const CLOSED: u8 = 1;
+
+pub const CHOSEN: u8 = 2;
+
+// Writes the chosen wires, rising, to the start of a set.
+fn gather(marks: &[u8; MAX_WIRES], wires: usize, set: &mut [u16])
+    requires { ⌜ (wires ≤ maxWires) × (length (members wires (isChosen (now marks))) ≤ length (now set)) ⌝ }
+    ensures { λ _. ⌜ take (length (members wires (isChosen (now (marks .entry))))) (now (set .exit)) ≡ members wires (isChosen (now (marks .entry))) ⌝ }
+{
+    let mut size = 0;
+    let mut next = 0;
+    while next < wires {
+        let wire = next;
+        next += 1;
+        if marks[wire] == CHOSEN {
+            set[size] = wire as u16;
+            size += 1;
+        }
+    }
+}
+
+// The rank of the chosen wires.
+fn rank_of_chosen(counts: &[u64; COUNTS], wires: usize, size: usize, marks: &[u8; MAX_WIRES]) -> u64
+    requires { ⌜ Counts (now counts) ⌝ }
+    requires { ⌜ (wires ≤ maxWires) × (size ≤ maxSize) × (length (members wires (isChosen (now marks))) ≡ size) ⌝ }
+    ensures { λ r. ⌜ r ≡ rankOf wires (members wires (isChosen (now (marks .entry)))) ⌝ }
+{
+    let mut set = [0u16; MAX_SIZE];
+    gather(marks, wires, &mut set);
+    rank(counts, wires, &set[0..size])
+}
+
+// The least rank of the chosen wires, where they break, and of what was found before.
+fn settle(
+    table: &[u8],
+    counts: &[u64; COUNTS],
+    ones: &[u8; WORDS],
+    size: usize,
+    marks: &[u8; MAX_WIRES],
+    sum: Sum,
+    paid: usize,
+    least: u64,
+) -> u64
+    requires { ⌜ Counts (now counts) × Ones (now ones) ⌝ }
+    requires { ⌜ (length (now table) ≤ maxTableBytes) × (size ≤ maxSize) × (length (members (wireCount (now table)) (isChosen (now marks))) ≡ size) ⌝ }
+    ensures { λ r. ⌜ Settled (sumBreaks maxShares maxMasks paid (termsOf sum)) (rankOf (wireCount (now (table .entry))) (members (wireCount (now (table .entry))) (isChosen (now (marks .entry))))) least r ⌝ }
+{
+    if sum_breaks(ones, sum, paid) {
+        let rank = rank_of_chosen(counts, table.len() / RECORD_BYTES, size, marks);
+        if rank < least {
+            return rank;
+        }
+    }
+    least
+}
+
+// Whether a wire is passed over: the last one has to take all masks away.
+fn is_vain(sum: Sum, left: usize) -> bool
+    requires { ⌜ 0 < left ⌝ }
+    ensures { λ r. ⌜ (r ≡ true → (left ≡ 1) × (masked maxMasks (termsOf sum) ≡ true)) ⌝ }
+{
+    if 1 < left {
+        return false;
+    }
+    is_masked(sum)
+}
+
+// The least rank of a breaking set that has the chosen wires and open ones besides, `left` more in all, and of what was found before.
+pub fn descend(
+    table: &[u8],
+    counts: &[u64; COUNTS],
+    ones: &[u8; WORDS],
+    carriers: &[u16; CARRIERS],
+    order: &[usize; MAX_MASKS],
+    notion: Notion,
+    size: usize,
+    top: usize,
+    marks: [u8; MAX_WIRES],
+    sum: Sum,
+    paid: usize,
+    left: usize,
+    found: u64,
+) -> u64
+    requires { ⌜ Counts (now counts) × Ones (now ones) × Carriers (now table) (now carriers) ⌝ }
+    requires { ⌜ (length (now table) ≤ maxTableBytes) × (size ≤ maxSize) × NoneBelow (isBreaking notion (now table) maxShares maxMasks) (wireCount (now table)) size ⌝ }
+    requires { ⌜ Node notion (now table) size top marks sum paid left ⌝ }
+    ensures { λ r. ⌜ Looked (isBreaking notion (now (table .entry)) maxShares maxMasks) (wireCount (now (table .entry))) size top marks found r ⌝ }
+{
+    if left == 0 {
+        return settle(table, counts, ones, size, &marks, sum, paid, found);
+    }
+    // a part of a least breaking set has a mask
+    if !is_masked(sum) {
+        return found;
+    }
+    let mask = rarest(order, sum);
+    let mut least = found;
+    let mut now = marks;
+    let mut limit = highest_below(carriers, mask, top);
+    while 0 < limit {
+        let wire = limit - 1;
+        limit = highest_below(carriers, mask, wire);
+        if now[wire] == OPEN {
+            let more = with_wire(sum, table, wire);
+            if is_vain(more, left) {
+                now[wire] = CLOSED;
+            } else {
+                now[wire] = CHOSEN;
+                least = descend(
+                    table,
+                    counts,
+                    ones,
+                    carriers,
+                    order,
+                    notion,
+                    size,
+                    top,
+                    now,
+                    more,
+                    paid + pay(table, notion, wire),
+                    left - 1,
+                    least,
+                );
+                // all sets with this wire are looked at
+                now[wire] = CLOSED;
+            }
+        }
+    }
+    least
+}

@@ -1,0 +1,3 @@
+-- The definitions that the promises of `directed_search` cite.
+--     Least     the least rank of a set that passes a test
+pub mod Least
