@@ -4,7 +4,7 @@
 --     root                   the top wire alone is a node
 --     Passed                 no set of a size out of the first wires passes a test
 --     none-passed, top-done, top-found, all-done     before the first turn, after a turn, where a set is found, after the last turn
-use Prim.Native.Nat.{ℕ, suc, _+_, _-_, _≤_, _<_}
+use Prim.Native.Nat.{ℕ, zero, suc, _+_, _-_, _≤_, _<_}
 use native.Mathlib.Nat.{le-refl, not-suc-le-zero}
 use native.Mathlib.Decide.{decLt}
 use native.Mathlib.Omega.{arith}
@@ -112,16 +112,13 @@ pub record Passed (test : List ℕ → Bool) (n size top : ℕ) : Type 0 where
   pub clean : (i : ℕ) → i < binom top size → test (setAt n size i) ≡ false
 
 pub none-passed : (test : List ℕ → Bool) (n size : ℕ) → 0 < size → Passed test n size 0
-none-passed test n 0 some = absurd (not-suc-le-zero some)
+none-passed test n zero some = absurd (not-suc-le-zero some)
 none-passed test n (suc k) some = record { clean = λ i h. absurd (not-suc-le-zero (subst (λ (m : ℕ). i < m) (binom-none k) h)) }
 
 module _ (test : List ℕ → Bool) (notion : Notion) (table : List ℕ) (size top : ℕ) (marks : List ℕ) (rooted : Rooted top marks)
-    (few : wireCount table ≤ maxWires) (below : top < wireCount table) (passed : Passed test (wireCount table) size top) (least : ℕ)
-    (looked : Looked test (wireCount table) size top (set marks top 2) (binom (wireCount table) size) least) where
-  abbrev all : ℕ
-  all = binom (wireCount table) size
-
-  wider : binom (suc top) size ≤ all
+    (few : wireCount table ≤ maxWires) (below : top < wireCount table) (passed : Passed test (wireCount table) size top) (none least : ℕ)
+    (all : none ≡ binom (wireCount table) size) (looked : Looked test (wireCount table) size top (set marks top 2) none least) where
+  wider : binom (suc top) size ≤ binom (wireCount table) size
   wider = binom-wider (suc top) (wireCount table) size below
 
   up-to : (i : ℕ) → i < binom (suc top) size → i < least → test (setAt (wireCount table) size i) ≡ false
@@ -149,33 +146,33 @@ module _ (test : List ℕ → Bool) (notion : Notion) (table : List ℕ) (size t
               (root-fits top marks rooted (omega (arith, below, few)) notion table size few below (t .0) (t .2) has) in
               omega (arith, low, rank, less)
           impossible false has e =
-              let low = rank-within (wireCount table) size top (t .0) (omega (arith, below)) (λ w a b. none w a (alike w top)) long in
+              let low = rank-within (wireCount table) size top (t .0) (omega (arith, below)) (λ w a b. out w a (alike w top)) long in
               omega (arith, low, rank, p)
             where
-              none : (w : ℕ) → top ≤ w → Dec (w ≡ top) → t .0 w ≡ false
-              none w a (yes q) = ap (t .0) q ∙ has
-              none w a (no q) = t .2 w (omega (arith, a, q))
+              out : (w : ℕ) → top ≤ w → Dec (w ≡ top) → t .0 w ≡ false
+              out w a (yes q) = ap (t .0) q ∙ has
+              out w a (no q) = t .2 w (omega (arith, a, q))
 
           pick : (b : Bool) → test (setAt (wireCount table) size i) ≡ b → b ≡ false
           pick true e = absurd (impossible (t .0 top) refl e)
           pick false e = refl
 
-  pub top-done : all ≤ least → Passed test (wireCount table) size (top + 1)
-  top-done none = record {
+  pub top-done : none ≤ least → Passed test (wireCount table) size (top + 1)
+  top-done nothing = record {
     clean = λ i h. let at : i < binom (suc top) size = subst (λ (k : ℕ). i < binom k size) (add-one top) h in
-        up-to i at (omega (arith, at, wider, none));
+        up-to i at (omega (arith, at, wider, nothing, all));
   }
 
-  pub top-found : least < all → LeastRank test (wireCount table) size least
+  pub top-found : least < none → LeastRank test (wireCount table) size least
   top-found less = record {
-    most = omega (arith, less);
+    most = omega (arith, less, all);
     found = λ h. looked .found less;
     earlier = λ i h. up-to i (omega (arith, h, looked .low less)) h;
   }
 
-pub all-done : (test : List ℕ → Bool) (n size top none : ℕ) → Passed test n size top → top ≡ n → none ≡ binom n size → LeastRank test n size none
-all-done test n size top none passed e is = record {
+pub all-done : (test : List ℕ → Bool) (n size top none : ℕ) → Passed test n size top → n ≤ top → top ≤ n → none ≡ binom n size → LeastRank test n size none
+all-done test n size top none passed low high is = record {
   most = omega (arith, is);
   found = λ h. let z : ⊥ = omega (arith, is, h) in absurd z;
-  earlier = λ i h. passed .clean i (subst (λ (k : ℕ). i < binom k size) (sym e) (omega (arith, h, is)));
+  earlier = λ i h. let e : n ≡ top = omega (arith, low, high) in passed .clean i (subst (λ (k : ℕ). i < binom k size) e (omega (arith, h, is)));
 }
