@@ -7,18 +7,16 @@ ghost use Rattle.verdict_answers.specs.Answers.{verdictTold, verdictOf};
 ghost use Rattle.verdict_answers.specs.First.{VerdictFinds};
 ghost use Rattle.verdict_answers.specs.Guarantee.{Guarantee};
 pub use dependence::set_dependence;
-use limits::MAX_SIZE;
-use opening::Opened;
-use opening::opening;
-use opening::write;
+use judging::Way;
+use judging::judge;
 pub use ranges::range_check;
 pub use verdict_answers::DependenceAnswer;
 pub use verdict_answers::RangeAnswer;
 pub use verdict_answers::Refusal;
 pub use verdict_answers::VerdictAnswer;
 
-// Whether the table holds the notion (1, NI; 2, SNI) at an order. Where it does not, the first breaking set in rising size and rank is
-// written, rising, at the start of `set`.
+// Whether the table holds the notion (1, NI; 2, SNI) at an order, by nested loops over size and rank. Where it does not, the first breaking set in rising
+// size and rank is written, rising, at the start of `set`.
 pub fn verdict(
     table: &[u8],
     shares: usize,
@@ -31,26 +29,5 @@ pub fn verdict(
     ensures { λ r. ⌜ VerdictFinds r (now (table .entry)) shares masks notion order (now (set .entry)) (now (set .exit)) ⌝ }
     ensures { λ r. ⌜ Guarantee r (now (table .entry)) shares masks notion order (now (set .exit)) ⌝ }
 {
-    let opened = opening(table, shares, masks, notion);
-    match opened {
-        Opened::Refused(why) => VerdictAnswer::Refused(why),
-        Opened::For(kind) => {
-            if order < 1 {
-                return VerdictAnswer::Refused(Refusal::OrderOutOfRange);
-            }
-            if shares <= order {
-                return VerdictAnswer::Refused(Refusal::OrderOutOfRange);
-            }
-            if set.len() < order {
-                return VerdictAnswer::Refused(Refusal::BufferTooShort);
-            }
-            let mut probes = [0u16; MAX_SIZE];
-            let size = search::first_set(table, kind, order, &mut probes);
-            if size == 0 {
-                return VerdictAnswer::Holds;
-            }
-            write(&probes[0..size], set);
-            VerdictAnswer::Broken { size }
-        }
-    }
+    judge(Way::Walk, table, shares, masks, notion, order, set)
 }

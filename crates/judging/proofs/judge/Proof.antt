@@ -1,4 +1,4 @@
--- `verdict::verdict` meets its contract: each refusal where its test is the first to fail, with the buffer as it was, else what the search found.
+-- `judging::judge` meets its contract: each refusal where its test is the first to fail, with the buffer as it was, else what the search found.
 -- Assumes nothing.
 use Prim.Native.Nat.{ℕ}
 use mathlib.Core.Path.{_≡_, sym, _∙_, ap}
@@ -12,9 +12,9 @@ use Rattle.verdict_answers.specs.Guarantee.{Guarantee}
 use Rattle.verdict_answers.proofs.Finds.{verdict-finds}
 use Rattle.opening.specs.declared.Opened.{Opened}
 use Rattle.opening.specs.Opening.{openedTold, opens}
-use Rattle.verdict.proofs.Entries.{Promise, Passed, before, order-low, order-high, no-room, found-none, found-set, bytes, order-small, size-within}
-use Rattle.verdict.proofs.verdict.Statement.{statement}
-use Rattle.verdict.proofs.verdict.Tie as tie
+use Rattle.judging.proofs.Entries.{Promise, Passed, before, order-low, order-high, no-room, found-none, found-set, bytes, order-small, size-within}
+use Rattle.judging.proofs.judge.Statement.{statement}
+use Rattle.judging.proofs.judge.Tie as tie
 
 promised : {answer : VerdictAnswer} {held table : List ℕ} {shares masks notion order : ℕ} {buffer : List ℕ}
     → Promise answer held table shares masks notion order buffer
@@ -115,8 +115,8 @@ returns-6 c =
     (found-set _ _ _ _ _ _ _ (passed (q .before .before .before .before)) _ _ (q .before .before .first-set .ensures) (q .if4 .left) _
     (c .before .before .write .ensures))
 
-pub verdict-spec : {M : Type 1} → statement M
-verdict-spec =
+pub judge-spec : {M : Type 1} → statement M
+judge-spec =
     tie.close
     (tie.spec
     opening-requires
