@@ -2,11 +2,13 @@
 --     ni-pays, sni-pays    what a wire pays under NI, and under SNI
 --     payers-more          how many wires pay, with one wire more of a set
 --     whole-count          all wires of the set
+--     at-most              no more wires pay than there are
 use Prim.Native.Nat.{ℕ, _+_, _≤_, _<_}
 use native.Mathlib.Nat.{zero-add, add-zero, add-assoc}
+use native.Mathlib.Omega.{arith}
 use mathlib.Core.Path.{_≡_, sym, _∙_, ap, ap₂}
-use mathlib.Core.Bool.{Bool, not}
-use mathlib.Core.List.{List, map}
+use mathlib.Core.Bool.{Bool, true, false, not}
+use mathlib.Core.List.{List, [], _∷_, map}
 use lib.ListN.{length, take, getD}
 use lib.Seq.{take-all}
 use Rattle.basics.specs.Folds.{oneIf}
@@ -31,3 +33,11 @@ payers-more notion table set i k p h e paid =
 pub whole-count : (notion : Notion) (table set : List ℕ) (i k : ℕ) → length set ≤ i → k ≡ allowed notion (map (wireAt table) (take i set))
     → k ≡ allowed notion (map (wireAt table) set)
 whole-count notion table set i k h e = e ∙ ap (λ l. allowed notion (map (wireAt table) l)) (take-all i set h)
+
+pub at-most : (notion : Notion) (l : List Wire) → allowed notion l ≤ length l
+at-most notion [] = omega arith
+at-most notion (w ∷ l) = omega (arith, at-most notion l, one (pays notion w))
+  where
+    one : (b : Bool) → oneIf b ≤ 1
+    one true = omega arith
+    one false = omega arith

@@ -39,7 +39,27 @@ pub extern "C" fn calduvren_verdict(
     ensures { λ r. ⌜ VerdictShows r (now (holds .exit)) (now (size .exit)) (now (table .entry)) shares masks notion order (now (set .entry)) (now (set .exit)) ⌝ }
     ensures { λ r. ⌜ VerdictSays r (now (holds .exit)) (now (size .exit)) (now (table .entry)) shares masks notion order (now (set .exit)) ⌝ }
 {
-    table_calls::verdict(table, shares, masks, notion, order, set, holds, size)
+    verdict_calls::verdict(table, shares, masks, notion, order, set, holds, size)
+}
+
+// The same by the directed search, which does not visit every set.
+#[no_mangle]
+pub extern "C" fn calduvren_directed_verdict(
+    table: &[u8],
+    shares: usize,
+    masks: usize,
+    notion: usize,
+    order: usize,
+    set: &mut [u16],
+    holds: &mut u64,
+    size: &mut usize,
+) -> u64
+    ensures { λ r. ⌜ got r (now (holds .exit) ∷ now (size .exit) ∷ []) (now (set .exit)) ≡ lentJudged (verdictOf (now (table .entry)) shares masks notion order (now (set .entry))) (now (holds .entry) ∷ now (size .entry) ∷ []) ⌝ }
+    ensures { λ r. ⌜ Kept r (now (holds .exit) ∷ now (size .exit) ∷ []) (now (holds .entry) ∷ now (size .entry) ∷ []) (now (set .exit)) (now (set .entry)) ⌝ }
+    ensures { λ r. ⌜ VerdictShows r (now (holds .exit)) (now (size .exit)) (now (table .entry)) shares masks notion order (now (set .entry)) (now (set .exit)) ⌝ }
+    ensures { λ r. ⌜ VerdictSays r (now (holds .exit)) (now (size .exit)) (now (table .entry)) shares masks notion order (now (set .exit)) ⌝ }
+{
+    verdict_calls::directed_verdict(table, shares, masks, notion, order, set, holds, size)
 }
 
 // Whether a set of one size breaks the notion at a rank from `from` up to, without, `to`.

@@ -18,7 +18,7 @@ use Rattle.basics.specs.Folds.{upTo}
 use Rattle.revolving.specs.Order.{rising, below}
 use Rattle.basics.proofs.Tests.{and-right}
 use Rattle.parts.specs.Parts.{members}
-use Rattle.parts.proofs.Members.{members-last, members-is-set}
+use Rattle.parts.proofs.Members.{members-last, members-rise, members-is-set}
 
 pub record Gathered (s : ℕ → Bool) (room : ℕ) (held : List ℕ) (size next : ℕ) : Type 0 where
   pub long : length held ≡ room
@@ -39,22 +39,10 @@ module _ (s : ℕ → Bool) where
   less n e =
       ap (λ (k : ℕ). members k s) (add-one n) ∙ members-last n s ∙ ap (λ (b : Bool). members n s ++ cond b (n ∷ []) []) e ∙ append-nil (members n s)
 
-  pub members-rise : (m n : ℕ) → m ≤ n → length (members m s) ≤ length (members n s)
-  members-rise m zero h = let e : m ≡ 0 = omega arith in subst (λ (k : ℕ). length (members k s) ≤ length (members 0 s)) (sym e) (omega arith)
-  members-rise m (suc n) h = go (decLt n m) (members-rise m n)
-    where
-      go : Dec (n < m) → (m ≤ n → length (members m s) ≤ length (members n s)) → length (members m s) ≤ length (members (suc n) s)
-      go (yes p) ih =
-          let e : m ≡ suc n = omega (arith, p, h) in
-          subst (λ (k : ℕ). length (members k s) ≤ length (members (suc n) s)) (sym e) (omega arith)
-      go (no p) ih =
-          let before : length (members m s) ≤ length (members n s) = ih (omega (arith, p)) in
-          omega (arith, before, ap length (members-last n s), length-append (members n s) (cond (s n) (n ∷ []) []))
-
   module _ (room : ℕ) (held : List ℕ) (size next : ℕ) (g : Gathered s room held size next) where
     pub gather-room : (n : ℕ) → next < n → length (members n s) ≤ room → s next ≡ true → size < length held
     gather-room n h fits e =
-        omega (arith, members-rise (next + 1) n (omega (arith, h)), ap length (more next e), length-append (members next s) (next ∷ []), g .size-is, g .long, fits)
+        omega (arith, members-rise s (next + 1) n (omega (arith, h)), ap length (more next e), length-append (members next s) (next ∷ []), g .size-is, g .long, fits)
 
     pub gather-more : size < length held → s next ≡ true → Gathered s room (set held size next) (size + 1) (next + 1)
     gather-more h e = record {

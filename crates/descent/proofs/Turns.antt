@@ -5,21 +5,22 @@
 --     turn-first, turn-shut, turn-vain, turn-deep, turn-last     the turns: before the first; a wire that is not open; one that is passed over as the last one;
 --                     one that was descended with; after the last
 --     child           the node of a descent with one more wire
---     wire-in, wire-fits, pay-fits     the wire has a record and a mark, and what is paid is a small number
+--     wire-in, wire-fits, pay-few     the wire has a record and a mark, and no more is paid than the size
 use Prim.Native.Nat.{ℕ, suc, _+_, _*_, _-_, _/_, _≤_, _<_}
 use native.Mathlib.Omega.{arith}
 use mathlib.Core.Path.{_≡_, refl, sym, _∙_, ap, subst}
-use mathlib.Core.Bool.{Bool, true, false}
-use mathlib.Core.List.{List, [], _∷_, map}
+use mathlib.Core.Bool.{true}
+use mathlib.Core.List.{List, map}
 use lib.ListN.{length, getD, set, length-map}
 use lib.Seq.{set-set}
 use Rattle.limits.specs.Limits.{maxShares, maxMasks, maxWires, maxTableBytes}
-use Rattle.basics.specs.Folds.{count, oneIf}
+use Rattle.basics.specs.Folds.{oneIf}
 use Rattle.wires.specs.declared.Notion.{Notion}
-use Rattle.wires.specs.Wires.{plus, pays, masked, allowed}
+use Rattle.wires.specs.Wires.{plus, pays, masked}
 use Rattle.records.specs.declared.sums.Sum.{Sum}
 use Rattle.records.specs.Layout.{wireAt, wireCount, termsOf}
 use Rattle.breaking.specs.Breaking.{isBreaking}
+use Rattle.breaking.proofs.Paying.{at-most}
 use Rattle.parts.specs.Parts.{members}
 use Rattle.carriers.specs.Carriers.{carries, highestAt, Carriers}
 use Rattle.carriers.proofs.Highest.{highest-most, highest-none, carrier-read}
@@ -144,17 +145,8 @@ module _ (notion : Notion) (table carriers : List ℕ) (size top : ℕ) (sum : S
       try-last notion table size top (carries table mask) first before now sum paid left least limit mask (d .node) (d .trying) (omega (arith, end))
       (d .real) (d .has) (λ w. refl)
 
--- no more wires pay than there are
-count-most : {A : Type 0} (f : A → Bool) (l : List A) → count f l ≤ length l
-count-most f [] = omega arith
-count-most f (x ∷ l) = go (f x) (count-most f l)
-  where
-    go : (b : Bool) → count f l ≤ length l → oneIf b + count f l ≤ suc (length l)
-    go true h = omega (arith, h)
-    go false h = omega (arith, h)
-
 pub pay-few : (notion : Notion) (table : List ℕ) (size top : ℕ) (marks : List ℕ) (sum : Sum) (paid left : ℕ)
     → Node notion table size top marks sum paid left → paid ≤ size
 pay-few notion table size top marks sum paid left node =
     let l = members (wireCount table) (isChosen marks) in
-    omega (arith, node .paid-is, count-most (pays notion) (map (wireAt table) l), length-map l (wireAt table), node .size-is)
+    omega (arith, node .paid-is, at-most notion (map (wireAt table) l), length-map l (wireAt table), node .size-is)

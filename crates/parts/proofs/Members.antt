@@ -2,6 +2,7 @@
 --     keep-below        tests that say the same of every wire below n have the same members
 --     keep-narrow       a test that passes no wire from m on has its members below m
 --     members-length    how many members there are
+--     members-rise      more wires have no fewer members
 --     members-is-set    they are a set
 --     a-test            every set is the members of a test
 --     rest, rest-parted the wires of a set outside a part of it
@@ -60,6 +61,18 @@ members-length n s = go (upTo n)
         one : (b : Bool) → length (keep s l) ≡ count s l → length (cond b (x ∷ keep s l) (keep s l)) ≡ oneIf b + count s l
         one true e = let more : 1 + count s l ≡ suc (count s l) = omega arith in ap suc e ∙ sym more
         one false e = e ∙ sym (zero-add (count s l))
+
+pub members-rise : (s : ℕ → Bool) (m n : ℕ) → m ≤ n → length (members m s) ≤ length (members n s)
+members-rise s m zero h = let e : m ≡ 0 = omega arith in subst (λ (k : ℕ). length (members k s) ≤ length (members 0 s)) (sym e) (omega arith)
+members-rise s m (suc n) h = go (decLt n m) (members-rise s m n)
+  where
+    go : Dec (n < m) → (m ≤ n → length (members m s) ≤ length (members n s)) → length (members m s) ≤ length (members (suc n) s)
+    go (yes p) ih =
+        let e : m ≡ suc n = omega (arith, p, h) in
+        subst (λ (k : ℕ). length (members k s) ≤ length (members (suc n) s)) (sym e) (omega arith)
+    go (no p) ih =
+        let before : length (members m s) ≤ length (members n s) = ih (omega (arith, p)) in
+        omega (arith, before, ap length (members-last n s), length-append (members n s) (cond (s n) (n ∷ []) []))
 
 -- a set of some wires is one of more wires
 wider : (n k : ℕ) (l : List ℕ) → isSet n k l ≡ true → isSet (suc n) k l ≡ true

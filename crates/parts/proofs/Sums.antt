@@ -1,7 +1,6 @@
 -- Sums and counts over a set and over its parts.
 --     fold-members     a fold over the members, as one over all wires
 --     fold-parted      a fold over a set is put together from those over its parts
---     plus-comm        terms are added in any order
 --     sum, paid        the terms of a set added up, and how many of its wires pay
 --     sum-parted, paid-parted, length-parted     they are put together from those of its parts
 --     sum-one, paid-one, length-one              those of one wire
@@ -16,11 +15,10 @@ use borrow.Author.Tests.{eqb-true}
 use lib.Dec.{eqb}
 use lib.ListN.{length}
 use Rattle.basics.specs.Folds.{fold, count, keep, oneIf, upTo}
-use Rattle.basics.proofs.Tests.{xor-comm}
 use Rattle.basics.proofs.Folds.{fold-map, fold-both, fold-below, fold-pick, fold-cong}
 use Rattle.wires.specs.declared.Notion.{Notion}
 use Rattle.wires.specs.Wires.{Terms, Wire, none, plus, total, pays, allowed}
-use Rattle.wires.proofs.Value.{terms-ext, plus-none, none-plus, plus-assoc}
+use Rattle.wires.proofs.Value.{plus-none, none-plus, plus-comm, plus-assoc}
 use Rattle.parts.specs.Parts.{members, Parted}
 use Rattle.parts.proofs.Members.{members-length, rest, rest-parted}
 
@@ -56,11 +54,6 @@ module _ {B : Type 0} (op : B → B → B) (e : B) (unit : (x : B) → op e x �
         at false true false x h = let z : ⊥ = omega arith in absurd z
         at false false true x h = let z : ⊥ = omega arith in absurd z
         at false false false x h = sym (unit e)
-
-pub plus-comm : (t u : Terms) → plus t u ≡ plus u t
-plus-comm t u =
-    terms-ext (plus t u) (plus u t) (λ i j. xor-comm (t .product i j) (u .product i j)) (λ i. xor-comm (t .shareA i) (u .shareA i))
-    (λ j. xor-comm (t .shareB j) (u .shareB j)) (λ k. xor-comm (t .mask k) (u .mask k))
 
 -- the wires that are tested, the notion, and how many wires there are
 module _ (wire : ℕ → Wire) (n : ℕ) where

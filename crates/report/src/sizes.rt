@@ -1,4 +1,4 @@
-// How many sets the two verdicts look at, and how long that takes.
+// How many sets the two verdicts have to answer for, and how long that takes where the directed search can pass over none.
 use console::saying::say;
 use console::saying::say_number;
 use console::times::SETS_A_SECOND;
@@ -6,10 +6,10 @@ use console::times::TIME_BYTES;
 use console::times::sets_of_both;
 use console::times::write_time;
 
-// From so many sets on a check is long: some seconds.
+// From so many sets on a check may be long: some seconds.
 const LONG: u64 = 1_000_000_000;
 
-// The sets of both notions that a check of the text looks at.
+// The sets of both notions that a check of the text has to answer for.
 pub fn sets_to_look_at(text: &[u8]) -> u64 {
     let size = plan_text::check_size(text);
     let sets = size.sets;
@@ -20,12 +20,12 @@ pub fn is_long(sets: u64) -> bool {
     LONG <= sets
 }
 
-// Says how long a check of so many sets may take.
+// Says how long a check of so many sets may take. How many of them the search passes over is not known before it has ended.
 pub fn warn(sets: u64) {
     say_number(b"report: up to ", sets);
-    say(b" sets to look at, some ");
+    say(b" sets to look at, at worst some ");
     say_time(sets / SETS_A_SECOND);
-    say(b"; docs/GUIDE.md tells how to divide them over machines\n");
+    say(b", a second where few wires share a mask; docs/GUIDE.md tells how to divide them over machines\n");
 }
 
 fn say_time(seconds: u64) {

@@ -17,12 +17,13 @@ use lib.Seq.{take-at, length-take-le, getD-take}
 use Rattle.limits.specs.Limits.{maxWires, maxSize}
 use Rattle.basics.specs.Folds.{fold, oneIf}
 use Rattle.basics.proofs.Folds.{fold-map}
-use Rattle.basics.proofs.Tests.{xor-self, xor-comm}
+use Rattle.basics.proofs.Tests.{xor-self}
+use Rattle.breaking.proofs.Paying.{at-most}
 use Rattle.counts.specs.Counts.{binom}
 use Rattle.records.specs.Layout.{wireAt, wireCount, inside, termsOf}
 use Rattle.wires.specs.declared.Notion.{Notion}
 use Rattle.wires.specs.Wires.{Terms, Wire, none, plus, total, SumOfValues, pays, allowed}
-use Rattle.wires.proofs.Value.{terms-ext, plus-none, plus-assoc, sum-of-values}
+use Rattle.wires.proofs.Value.{terms-ext, plus-none, plus-comm, plus-assoc, sum-of-values}
 use Rattle.revolving.specs.Order.{setAt, isSet}
 use Rattle.revolving.proofs.Rising.{Chosen, isSet-parts}
 use Rattle.revolving.proofs.Revolving.{set-at-is-set}
@@ -38,11 +39,6 @@ use Rattle.running.proofs.Inside.{is-set-inside, part}
 pub plus-self : (t : Terms) → plus t t ≡ none
 plus-self t =
     terms-ext (plus t t) none (λ i j. xor-self (t .product i j)) (λ i. xor-self (t .shareA i)) (λ j. xor-self (t .shareB j)) (λ k. xor-self (t .mask k))
-
-plus-comm : (t u : Terms) → plus t u ≡ plus u t
-plus-comm t u =
-    terms-ext (plus t u) (plus u t) (λ i j. xor-comm (t .product i j) (u .product i j)) (λ i. xor-comm (t .shareA i) (u .shareA i))
-    (λ j. xor-comm (t .shareB j) (u .shareB j)) (λ k. xor-comm (t .mask k) (u .mask k))
 
 -- a wire of a rising list, and the others, in any sum over the wires
 module _ {B : Type 0} (op : B → B → B) (e : B) (comm : (x y : B) → op x y ≡ op y x) (assoc : (x y z : B) → op (op x y) z ≡ op x (op y z)) (f : ℕ → B) where
@@ -152,14 +148,6 @@ slide-asks n size probes lowest wires next is more =
       is ∙ sym (getD-take (size - 0) probes 0 0 some),
       subst (λ (l : List ℕ). 0 < room n l) (sym (part size probes)) more,
     )
-
-at-most : (notion : Notion) (l : List Wire) → allowed notion l ≤ length l
-at-most notion [] = omega arith
-at-most notion (w ∷ l) = omega (arith, at-most notion l, one (pays notion w))
-  where
-    one : (b : Bool) → oneIf b ≤ 1
-    one true = omega arith
-    one false = omega arith
 
 -- what the step of a part of the buffer came to: the wires x and y left and entered, and t is the set
 module _ (n size : ℕ) (probes t : List ℕ) (x y : ℕ) (next : HasNext n (take size probes)) (moved : t ≡ nextSet n (take (size - 0) probes))

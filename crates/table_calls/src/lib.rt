@@ -3,13 +3,12 @@ ghost use mathlib.Core.Path.{_≡_};
 ghost use mathlib.Core.List.{[], _∷_};
 ghost use Rattle.basics.specs.Folds.{oneIf};
 ghost use Rattle.table.specs.Answers.{functionCheck};
-ghost use Rattle.verdict_answers.specs.Answers.{verdictOf, rangeCheck, setDependence};
+ghost use Rattle.verdict_answers.specs.Answers.{rangeCheck, setDependence};
 ghost use Rattle.call_answers.specs.Calls.{got, answered, lentJudged};
-ghost use Rattle.call_answers.specs.Meaning.{Kept, FunctionSays, VerdictSays, VerdictShows, RangeShows, DependenceSays};
+ghost use Rattle.call_answers.specs.Meaning.{Kept, FunctionSays, RangeShows, DependenceSays};
 use table::FunctionAnswer;
 use verdict_answers::DependenceAnswer;
 use verdict_answers::RangeAnswer;
-use verdict_answers::VerdictAnswer;
 
 // Whether the outer wires add up to a function.
 pub fn function_check(
@@ -32,37 +31,6 @@ pub fn function_check(
         }
         FunctionAnswer::No => {
             *yes = 0;
-            0
-        }
-    }
-}
-
-// Whether the table holds the notion at an order.
-pub fn verdict(
-    table: &[u8],
-    shares: usize,
-    masks: usize,
-    notion: usize,
-    order: usize,
-    set: &mut [u16],
-    holds: &mut u64,
-    size: &mut usize,
-) -> u64
-    ensures { λ r. ⌜ got r (now (holds .exit) ∷ now (size .exit) ∷ []) (now (set .exit)) ≡ lentJudged (verdictOf (now (table .entry)) shares masks notion order (now (set .entry))) (now (holds .entry) ∷ now (size .entry) ∷ []) ⌝ }
-    ensures { λ r. ⌜ Kept r (now (holds .exit) ∷ now (size .exit) ∷ []) (now (holds .entry) ∷ now (size .entry) ∷ []) (now (set .exit)) (now (set .entry)) ⌝ }
-    ensures { λ r. ⌜ VerdictShows r (now (holds .exit)) (now (size .exit)) (now (table .entry)) shares masks notion order (now (set .entry)) (now (set .exit)) ⌝ }
-    ensures { λ r. ⌜ VerdictSays r (now (holds .exit)) (now (size .exit)) (now (table .entry)) shares masks notion order (now (set .exit)) ⌝ }
-{
-    let answer = verdict::verdict(table, shares, masks, notion, order, set);
-    match answer {
-        VerdictAnswer::Refused(why) => why.number(),
-        VerdictAnswer::Holds => {
-            *holds = 1;
-            0
-        }
-        VerdictAnswer::Broken { size: wires } => {
-            *holds = 0;
-            *size = wires;
             0
         }
     }

@@ -57,7 +57,7 @@ fn verdict_said(
     ensures { λ r. ⌜ r ≤ at + 172 ⌝ }
 {
     let mut set = [0u16; MAX_SIZE];
-    let answer = verdict::verdict(table, shares, masks, notion, order, &mut set);
+    let answer = directed::directed_verdict(table, shares, masks, notion, order, &mut set);
     match answer {
         VerdictAnswer::Holds => write_text(page, at, b" holds"),
         VerdictAnswer::Broken { size } => {

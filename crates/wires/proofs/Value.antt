@@ -1,6 +1,6 @@
 -- The value of terms under an input and a mask setting.
 --     terms-ext                      terms are equal when all their bits are
---     plus-none, none-plus, plus-assoc    laws of the addition of terms
+--     plus-none, none-plus, plus-comm, plus-assoc    laws of the addition of terms
 --     parity-both, parity-select, four-parts      sums of sums of bits
 --     parity-none, nothing, no-products      sums of bits that are all 0
 --     value-none, value-plus         the value of no terms; the value of a sum is the sum of the values
@@ -31,6 +31,11 @@ pub none-plus : (t : Terms) → plus none t ≡ t
 none-plus t =
     terms-ext (plus none t) t (λ i j. false-xor (t .product i j)) (λ i. false-xor (t .shareA i)) (λ j. false-xor (t .shareB j))
     (λ k. false-xor (t .mask k))
+
+pub plus-comm : (t u : Terms) → plus t u ≡ plus u t
+plus-comm t u =
+    terms-ext (plus t u) (plus u t) (λ i j. xor-comm (t .product i j) (u .product i j)) (λ i. xor-comm (t .shareA i) (u .shareA i))
+    (λ j. xor-comm (t .shareB j) (u .shareB j)) (λ k. xor-comm (t .mask k) (u .mask k))
 
 pub plus-assoc : (t u v : Terms) → plus (plus t u) v ≡ plus t (plus u v)
 plus-assoc t u v =

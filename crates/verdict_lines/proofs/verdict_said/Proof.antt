@@ -6,11 +6,11 @@ use borrow.Author.Needs.{needs}
 use Rattle.verdict_lines.proofs.verdict_said.Statement.{statement}
 use Rattle.verdict_lines.proofs.verdict_said.Tie as tie
 
-slice-aggregate-verdict : tie.Need-slice-aggregate-verdict
-slice-aggregate-verdict c = search needs
+slice-aggregate-directed-verdict : tie.Need-slice-aggregate-directed-verdict
+slice-aggregate-directed-verdict c = search needs
 
-verdict-requires : tie.Need-verdict-requires
-verdict-requires c κs = search needs
+directed-verdict-requires : tie.Need-directed-verdict-requires
+directed-verdict-requires c κs = search needs
 
 enum-told : tie.Need-enum-told
 enum-told c = search needs
@@ -32,12 +32,12 @@ part-broken-said-start c = search needs
 
 part-broken-said-end : tie.Need-part-broken-said-end
 part-broken-said-end c =
-    let few = shown-few _ _ _ _ _ _ _ _ (c .before .before .before .answer .given .1) (c .before .before .before .before .before .before .verdict .ensures .1 .1) in
+    let few = shown-few _ _ _ _ _ _ _ _ (c .before .before .before .answer .given .1) (c .before .before .before .before .before .before .directed-verdict .ensures .1 .1) in
     search needs
 
 broken-said-requires : tie.Need-broken-said-requires
 broken-said-requires c κs =
-    let few = shown-few _ _ _ _ _ _ _ _ (c .before .before .before .before .answer .given .1) (c .before .before .before .before .before .before .before .verdict .ensures .1 .1) in
+    let few = shown-few _ _ _ _ _ _ _ _ (c .before .before .before .before .answer .given .1) (c .before .before .before .before .before .before .before .directed-verdict .ensures .1 .1) in
     search needs
 
 enum-known-answer-2 : tie.Need-enum-known-answer-2
@@ -59,7 +59,7 @@ returns : tie.Need-returns
 returns c =
     let a = c .before .before .before .before .before .before .before .before .before .before .before .before .args in
     let end = c .before .before .write-text .ensures in (
-      holds-said _ _ _ _ (c .before .before .before .before .before .before .before .before .verdict .ensures .0) (a .page .now) (a .at) _ _ (c .before .before .before .before .before .enum-told .given .1) (end .0),
+      holds-said _ _ _ _ (c .before .before .before .before .before .before .before .before .directed-verdict .ensures .0) (a .page .now) (a .at) _ _ (c .before .before .before .before .before .enum-told .given .1) (end .0),
       omega (arith, end .1),
     )
 
@@ -70,8 +70,8 @@ returns-2 : tie.Need-returns-2
 returns-2 c =
     let a = c .before .before .before .before .before .before .before .before .before .before .before .before .before .before .args in
     let end = c .before .before .broken-said .ensures in
-    let few = shown-few _ _ _ _ _ _ _ _ (c .before .before .before .before .before .before .before .answer .given .1) (c .before .before .before .before .before .before .before .before .before .before .verdict .ensures .1 .1) in (
-      broken-said _ _ _ _ (c .before .before .before .before .before .before .before .before .before .before .verdict .ensures .0) (a .page .now) (a .at) _ _ _ (c .before .before .before .before .before .before .before .answer .given .1) (end .0),
+    let few = shown-few _ _ _ _ _ _ _ _ (c .before .before .before .before .before .before .before .answer .given .1) (c .before .before .before .before .before .before .before .before .before .before .directed-verdict .ensures .1 .1) in (
+      broken-said _ _ _ _ (c .before .before .before .before .before .before .before .before .before .before .directed-verdict .ensures .0) (a .page .now) (a .at) _ _ _ (c .before .before .before .before .before .before .before .answer .given .1) (end .0),
       search needs,
     )
 
@@ -82,7 +82,7 @@ returns-3 : tie.Need-returns-3
 returns-3 c =
     let a = c .before .before .before .before .before .before .before .before .before .before .before .before .before .before .args in
     let end = c .before .before .write-named .ensures in (
-      refused-said _ _ _ _ (c .before .before .before .before .before .before .before .before .before .before .verdict .ensures .0) (a .page .now) (a .at) _ _ _ _ (c .before .before .before .before .before .before .before .answer2 .given .1)
+      refused-said _ _ _ _ (c .before .before .before .before .before .before .before .before .before .before .directed-verdict .ensures .0) (a .page .now) (a .at) _ _ _ _ (c .before .before .before .before .before .before .before .answer2 .given .1)
           (c .before .before .before .number .ensures) (end .0),
       omega (arith, end .1),
     )
@@ -91,8 +91,8 @@ pub verdict-said-spec : {M : Type 1} → statement M
 verdict-said-spec =
     tie.close
     (tie.spec
-    slice-aggregate-verdict
-    verdict-requires
+    slice-aggregate-directed-verdict
+    directed-verdict-requires
     enum-told
     slice-aggregate-write-text
     write-text-requires

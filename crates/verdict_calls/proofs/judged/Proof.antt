@@ -1,12 +1,12 @@
--- `table_calls::verdict` meets its contract: each answer tells its number or its values, which mean what the answer means.
+-- `verdict_calls::judged` meets its contract: each answer tells its number or its values, which mean what the answer means.
 -- Assumes nothing.
 use borrow.Author.Needs.{needs}
 use Rattle.call_answers.proofs.Judging.{verdict-holds, verdict-broken, verdict-refused}
-use Rattle.table_calls.proofs.verdict.Statement.{statement}
-use Rattle.table_calls.proofs.verdict.Tie as tie
+use Rattle.verdict_calls.proofs.judged.Statement.{statement}
+use Rattle.verdict_calls.proofs.judged.Tie as tie
 
-verdict-requires : tie.Need-verdict-requires
-verdict-requires c κs = search needs
+judge-requires : tie.Need-judge-requires
+judge-requires c κs = search needs
 
 enum-known-answer : tie.Need-enum-known-answer
 enum-known-answer c = search needs
@@ -25,27 +25,27 @@ same-length c = search needs
 
 returns : tie.Need-returns
 returns c =
-    let e = c .before .before .before .before .before .before .verdict .ensures in verdict-refused _ _ _ _ _ _ _ _ (e .0) (e .1 .0) (e .1 .1) _ _ _ _ (c .before .before .answer .given .1) (c .number .ensures)
+    let e = c .before .before .before .before .before .before .judge .ensures in verdict-refused _ _ _ _ _ _ _ _ (e .0) (e .1 .0) (e .1 .1) _ _ _ _ (c .before .before .answer .given .1) (c .number .ensures)
 
 same-length-2 : tie.Need-same-length-2
 same-length-2 c = search needs
 
 returns-2 : tie.Need-returns-2
 returns-2 c =
-    let e = c .before .before .before .before .verdict .ensures in verdict-holds _ _ _ _ _ _ _ _ (e .0) (e .1 .0) (e .1 .1) _ _ (c .enum-told .given .1)
+    let e = c .before .before .before .before .judge .ensures in verdict-holds _ _ _ _ _ _ _ _ (e .0) (e .1 .0) (e .1 .1) _ _ (c .enum-told .given .1)
 
 same-length-3 : tie.Need-same-length-3
 same-length-3 c = search needs
 
 returns-3 : tie.Need-returns-3
 returns-3 c =
-    let e = c .before .before .before .before .before .verdict .ensures in verdict-broken _ _ _ _ _ _ _ _ (e .0) (e .1 .0) (e .1 .1) _ _ _ (c .before .answer2 .given .1)
+    let e = c .before .before .before .before .before .judge .ensures in verdict-broken _ _ _ _ _ _ _ _ (e .0) (e .1 .0) (e .1 .1) _ _ _ (c .before .answer2 .given .1)
 
-pub verdict-spec : {M : Type 1} → statement M
-verdict-spec =
+pub judged-spec : {M : Type 1} → statement M
+judged-spec =
     tie.close
     (tie.spec
-    verdict-requires
+    judge-requires
     enum-known-answer
     number-requires
     enum-told
