@@ -6,40 +6,24 @@
  *
  * exit status: 0 the times were printed; 1 the searches differ
  */
-#define _POSIX_C_SOURCE 199309L /* for clock_gettime */
 #include <inttypes.h>
 #include <stdio.h>
-#include <stdlib.h>
-#include <time.h>
 
 #include "calduvren.h"
 #include "compare.h"
 #include "engine.h"
+#include "sets.h"
 #include "tables.h"
+#include "turns.h"
 #include "walk.h"
 
-#define TURNS 7 /* odd, so that there is a median */
-#define TURN_SECONDS 0.04 /* a turn repeats its search for so long: one alone may take 6 milliseconds */
 #define TARGET_MASKED 1.2 /* engine to C */
 #define TARGET_UNMASKED 1.5
 #define TARGET_VERDICT 1.1 /* verdict to range checks */
 
-/* What is searched: the sets of `size` out of the table's wires, or those of every size from 1 to it. */
-struct task {
-    size_t wires, notion, size;
-};
-
 static struct range all_ranks(const struct task *task, size_t size)
 {
-    return (struct range){table, task->wires, task->notion, size, 0, walk_count(task->wires, size)};
-}
-
-static void must_hold(int holds, const char *name)
-{
-    if (holds)
-        return;
-    printf("bench: %s finds a breaking set in a table that holds\n", name);
-    exit(1);
+    return (struct range){table, task->wires, task->notion, size, 0, counts[task->wires][size]};
 }
 
 static void search_c(const struct task *task)
@@ -62,75 +46,35 @@ static void search_ranges(const struct task *task)
         search_range(&(struct task){task->wires, task->notion, size});
 }
 
-static void search_verdict(const struct task *task)
-{
-    uint16_t set[CALDUVREN_MAX_SIZE];
-    must_hold(engine_verdict(table, task->wires, task->notion, task->size, set) == 0, "the verdict");
-}
-
 enum { C, RANGE, RANGES, VERDICT, SEARCHES };
 
-static void (*const searches[SEARCHES])(const struct task *task) = {search_c, search_range, search_ranges,
-                                                                    search_verdict};
+static search *const searches[SEARCHES] = {search_c, search_range, search_ranges, search_verdict};
 
-/* How many sets one search visits. */
-static uint64_t visited(size_t search, const struct task *task)
+/* How many sets a search of the sizes from `least` visits. */
+static double visited(const struct task *task, size_t least)
 {
     uint64_t sets = 0;
-    for (size_t size = search == C || search == RANGE ? task->size : 1; size <= task->size; size++)
-        sets += walk_count(task->wires, size);
-    return sets;
+    for (size_t size = least; size <= task->size; size++)
+        sets += counts[task->wires][size];
+    return (double)sets;
 }
 
-static double seconds(void)
+/* Prints the medians of a yardstick and of what is held against it, in nanoseconds a set, and their ratio. */
+static void print_pair(const double *yardstick, const double *held, double sets, double target)
 {
-    struct timespec now;
-    clock_gettime(CLOCK_MONOTONIC, &now);
-    return (double)now.tv_sec + 1e-9 * (double)now.tv_nsec;
-}
-
-/* One turn of a search: its nanoseconds a set. */
-static double nanoseconds(size_t search, const struct task *task)
-{
-    unsigned times = 0;
-    double start = seconds(), end = start;
-    for (; end - start < TURN_SECONDS; times++) {
-        searches[search](task);
-        end = seconds();
-    }
-    return 1e9 * (end - start) / (double)times / (double)visited(search, task);
-}
-
-static int rising(const void *left, const void *right)
-{
-    double x = *(const double *)left, y = *(const double *)right;
-    return (x > y) - (x < y);
-}
-
-/* Prints the medians of a yardstick and of what is held against it, their ratio, that of the least of the turns, and
- * whether the first ratio is within the target. Both times rise. */
-static void print_ratio(const double *yardstick, const double *held, double target)
-{
-    double ratio = held[TURNS / 2] / yardstick[TURNS / 2];
-    printf(" %7.2f %7.2f %6.2f %6.2f %4s", yardstick[TURNS / 2], held[TURNS / 2], ratio, held[0] / yardstick[0],
-           ratio <= target ? "ok" : "not");
+    printf(" %7.2f %7.2f", median(yardstick) / sets, median(held) / sets);
+    print_ratio(yardstick, held, target);
 }
 
 /* Times all four by turns, and prints a row. */
 static void time_task(const struct task *task, const char *name, double target)
 {
     double times[SEARCHES][TURNS];
-    for (size_t i = 0; i < SEARCHES; i++)
-        searches[i](task); /* warming */
-    for (size_t turn = 0; turn < TURNS; turn++)
-        for (size_t i = 0; i < SEARCHES; i++)
-            times[i][turn] = nanoseconds(i, task);
-    for (size_t i = 0; i < SEARCHES; i++)
-        qsort(times[i], TURNS, sizeof times[i][0], rising);
-    printf("%-8s %-6s %5zu %4zu", name, task->notion == CALDUVREN_NI ? "NI" : "SNI", task->wires, task->size);
-    print_ratio(times[C], times[RANGE], target);
+    time_by_turns(searches, SEARCHES, task, times);
+    printf("%-8s %-6s %5zu %4zu", name, notion_name(task->notion), task->wires, task->size);
+    print_pair(times[C], times[RANGE], visited(task, task->size), target);
     printf("   ");
-    print_ratio(times[RANGES], times[VERDICT], TARGET_VERDICT);
+    print_pair(times[RANGES], times[VERDICT], visited(task, 1), TARGET_VERDICT);
     printf("\n");
     fflush(stdout);
 }
@@ -159,7 +103,7 @@ int main(void)
         size_t wires, size;
     } shapes[] = {{100, 4}, {60, 5}, {34, 7}};
     const size_t number = sizeof shapes / sizeof shapes[0];
-    walk_prepare();
+    sets_prepare();
     compare_random();
     for (size_t i = 0; i < number; i++)
         compare_planted(shapes[i].wires, shapes[i].size);

@@ -10,6 +10,7 @@
 
 #include "calduvren.h"
 #include "engine.h"
+#include "sets.h"
 #include "tables.h"
 #include "walk.h"
 
@@ -54,7 +55,7 @@ static size_t agreed_verdict(size_t wires, size_t notion, size_t order)
     uint16_t set[CALDUVREN_MAX_SIZE], first[CALDUVREN_MAX_SIZE];
     size_t found = 0;
     for (size_t size = 1; size <= order && found == 0; size++) {
-        struct range range = {table, wires, notion, size, 0, walk_count(wires, size)};
+        struct range range = {table, wires, notion, size, 0, counts[wires][size]};
         if (agreed(&range, first) < range.to)
             found = size;
     }
@@ -75,7 +76,7 @@ static void compare_ranges(void)
     for (unsigned i = 0; i < RANDOM_TABLES; i++) {
         size_t most_wires = i % 2 == 0 ? FEW_WIRES : CALDUVREN_MAX_WIRES;
         struct range range = {table, random_below(most_wires + 1), 1 + random_below(2), random_below(8), 0, 0};
-        uint64_t sets = walk_count(range.wires, range.size);
+        uint64_t sets = counts[range.wires][range.size];
         range.from = i % 4 < 2 ? 0 : random_below(sets + 1);
         range.to = sets - range.from < RANDOM_RANKS ? sets : range.from + RANDOM_RANKS;
         fill_mixed(range.wires);

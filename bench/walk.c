@@ -6,96 +6,9 @@
 #include <string.h>
 
 #include "calduvren.h"
+#include "sets.h"
 
-/* How many sets there are, at wires and size. */
-static uint64_t counts[CALDUVREN_MAX_WIRES + 1][CALDUVREN_MAX_SIZE + 1];
-
-/* How many ones a byte has: plain x86-64 has no instruction for it. */
-static uint8_t ones[256];
-
-void walk_prepare(void)
-{
-    for (size_t wires = 0; wires <= CALDUVREN_MAX_WIRES; wires++) {
-        counts[wires][0] = 1;
-        for (size_t size = 1; size <= CALDUVREN_MAX_SIZE; size++)
-            counts[wires][size] = wires == 0 ? 0 : counts[wires - 1][size] + counts[wires - 1][size - 1];
-    }
-    for (size_t byte = 1; byte < 256; byte++)
-        ones[byte] = (uint8_t)(ones[byte / 2] + byte % 2);
-}
-
-uint64_t walk_count(size_t wires, size_t size)
-{
-    return counts[wires][size];
-}
-
-/* Records added bit by bit without carry. */
-struct sum {
-    uint64_t products, masks;
-    uint8_t shares_a, shares_b;
-};
-
-static inline void add(struct sum *sum, const uint8_t *table, size_t wire)
-{
-    const uint8_t *record = table + CALDUVREN_RECORD_BYTES * wire;
-    uint64_t products, masks;
-    memcpy(&products, record, 8); /* x86-64 is little-endian, as the records are */
-    memcpy(&masks, record + 8, 8);
-    sum->products ^= products;
-    sum->masks ^= masks;
-    sum->shares_a ^= record[16];
-    sum->shares_b ^= record[17];
-}
-
-/* Whether a wire pays for a share: under SNI only the inner ones do. */
-static inline size_t pays(const struct range *range, size_t wire)
-{
-    return range->notion == CALDUVREN_NI || range->table[CALDUVREN_RECORD_BYTES * wire + 18] == 0;
-}
-
-/* Bit k is set where one of the eight bits k, k + stride, k + 2 stride, .. is. */
-static inline uint64_t gather(uint64_t word, unsigned stride)
-{
-    word |= word >> stride;
-    word |= word >> 2 * stride;
-    return word | word >> 4 * stride;
-}
-
-/* Whether a sum without masks depends on more shares of a, or of b, than are paid for. */
-static inline int exceeds(const struct sum *sum, size_t paid)
-{
-    uint64_t lowest = gather(sum->products, 1) & 0x0101010101010101;
-    uint8_t rows = (uint8_t)gather(lowest, 7);
-    uint8_t columns = (uint8_t)gather(sum->products, 8);
-    return paid < ones[rows | sum->shares_a] || paid < ones[columns | sum->shares_b];
-}
-
-/* The highest wire of the set at a rank: the sets out of as many wires stand before it, those of one more do not. */
-static inline size_t top_wire(size_t wires, size_t size, uint64_t rank)
-{
-    size_t low = 0, high = wires;
-    while (high - low > 1) {
-        size_t middle = low + (high - low) / 2;
-        if (counts[middle][size] <= rank)
-            low = middle;
-        else
-            high = middle;
-    }
-    return low;
-}
-
-/* The set at a rank, its highest wire first: below it stand the sets of one wire less, in reverse. */
-static inline void unrank(size_t wires, size_t size, uint64_t rank, uint16_t *set)
-{
-    for (size_t left = size; left > 0; left--) {
-        size_t wire = top_wire(wires, left, rank);
-        rank = counts[wire + 1][left] - 1 - rank;
-        set[left - 1] = (uint16_t)wire;
-        wires = wire;
-    }
-}
-
-static inline int breaks(const struct range *range, const uint16_t *set)
+static inline int set_breaks(const struct range *range, const uint16_t *set)
 {
     struct sum sum = {0, 0, 0, 0};
     size_t paid = 0;
@@ -104,7 +17,7 @@ static inline int breaks(const struct range *range, const uint16_t *set)
     if (sum.masks != 0)
         return 0;
     for (size_t i = 0; i < range->size; i++)
-        paid += pays(range, set[i]);
+        paid += pays(range->table, range->notion, set[i]);
     return exceeds(&sum, paid);
 }
 
@@ -112,7 +25,7 @@ uint64_t walk_by_rank(const struct range *range, uint16_t *set)
 {
     for (uint64_t rank = range->from; rank < range->to; rank++) {
         unrank(range->wires, range->size, rank, set);
-        if (breaks(range, set))
+        if (set_breaks(range, set))
             return rank;
     }
     return range->to;
@@ -129,12 +42,7 @@ static inline void exchange(struct running *running, const struct range *range, 
     add(&running->sum, range->table, leaves);
     add(&running->sum, range->table, enters);
     if (range->notion != CALDUVREN_NI)
-        running->paid += pays(range, enters) - pays(range, leaves);
-}
-
-static inline int running_breaks(const struct running *running)
-{
-    return running->sum.masks == 0 && exceeds(&running->sum, running->paid);
+        running->paid += pays(range->table, range->notion, enters) - pays(range->table, range->notion, leaves);
 }
 
 /* How many steps in a row move the lowest wire alone, by one: upwards where the size is odd, downwards where it is
@@ -178,7 +86,7 @@ static inline struct running start(const struct range *range, uint16_t *c)
     c[range->size] = (uint16_t)range->wires;
     for (size_t i = 0; i < range->size; i++) {
         add(&running.sum, range->table, c[i]);
-        running.paid += pays(range, c[i]);
+        running.paid += pays(range->table, range->notion, c[i]);
     }
     return running;
 }
@@ -198,7 +106,7 @@ uint64_t walk_by_exchange(const struct range *given, uint16_t *set)
         size_t lowest = c[0];
         int broken;
         for (;; rank++) {
-            broken = running_breaks(&running);
+            broken = breaks(&running.sum, running.paid);
             if (broken || rank == last)
                 break;
             exchange(&running, &range, lowest, lowest + move);

@@ -18,12 +18,6 @@ struct range {
     uint64_t from, to;
 };
 
-/* Fills the table of counts. To be called once, before all else. */
-void walk_prepare(void);
-
-/* How many sets of `size` out of `wires` wires there are. */
-uint64_t walk_count(size_t wires, size_t size);
-
 /* The first breaking rank, with its set in `set`, or `to` where none breaks. Each set is worked out from its rank by
  * the table of counts, and its records are added up anew. */
 uint64_t walk_by_rank(const struct range *range, uint16_t *set);
