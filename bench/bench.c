@@ -11,6 +11,7 @@
 
 #include "calduvren.h"
 #include "compare.h"
+#include "directed_times.h"
 #include "engine.h"
 #include "sets.h"
 #include "tables.h"
@@ -115,5 +116,7 @@ int main(void)
         fill_unmasked(shapes[i].wires);
         time_both_notions(shapes[i].wires, shapes[i].size, "none", TARGET_UNMASKED);
     }
+    printf("\n");
+    time_directed();
     return 0;
 }

@@ -29,13 +29,26 @@ uint64_t engine_range_check(const struct range *range, uint16_t *set)
     return clean ? range->to : rank;
 }
 
-size_t engine_verdict(const uint8_t *table, size_t wires, size_t notion, size_t order, uint16_t *set)
+typedef calduvren_status verdict(const uint8_t *table, size_t table_length, size_t shares, size_t masks, size_t notion,
+                                 size_t order, uint16_t *set, size_t set_length, uint64_t *holds, size_t *size);
+
+static size_t first_size(verdict *told, const char *name, const uint8_t *table, size_t wires, size_t notion,
+                         size_t order, uint16_t *set)
 {
     uint64_t holds = 0;
     size_t size = 0;
-    calduvren_status status = calduvren_verdict(table, CALDUVREN_RECORD_BYTES * wires, CALDUVREN_MAX_SHARES,
-                                                CALDUVREN_MAX_MASKS, notion, order, set, CALDUVREN_MAX_SIZE, &holds,
-                                                &size);
-    expect(status == CALDUVREN_OK && (holds || (0 < size && size <= order)), "verdict", status, size);
+    calduvren_status status = told(table, CALDUVREN_RECORD_BYTES * wires, CALDUVREN_MAX_SHARES, CALDUVREN_MAX_MASKS,
+                                   notion, order, set, CALDUVREN_MAX_SIZE, &holds, &size);
+    expect(status == CALDUVREN_OK && (holds || (0 < size && size <= order)), name, status, size);
     return holds ? 0 : size;
+}
+
+size_t engine_verdict(const uint8_t *table, size_t wires, size_t notion, size_t order, uint16_t *set)
+{
+    return first_size(calduvren_verdict, "verdict", table, wires, notion, order, set);
+}
+
+size_t engine_directed_verdict(const uint8_t *table, size_t wires, size_t notion, size_t order, uint16_t *set)
+{
+    return first_size(calduvren_directed_verdict, "directed verdict", table, wires, notion, order, set);
 }

@@ -3,6 +3,10 @@
  */
 #include "tables.h"
 
+#include <inttypes.h>
+#include <stdio.h>
+#include <stdlib.h>
+
 #define ONE_OUTER_IN 4 /* wires: more than gadgets have, so that there is something to count under SNI */
 
 uint8_t table[CALDUVREN_MAX_TABLE_BYTES];
@@ -46,14 +50,31 @@ void fill_masked(size_t wires)
 /*
  * One product an inner wire: the shares of a sum are never more than its inner wires, and often as many. An outer wire
  * pays for no share, so that one without a mask breaks SNI by itself unless it holds nothing. The outer wires here hold
- * nothing: they add nothing to a sum, but under SNI what its shares are held against changes as they come and go.
+ * no share: they add none to a sum, but under SNI what its shares are held against changes as they come and go. The
+ * masks are at random from `lowest` up to, without, `lowest` + `settings`, as numbers.
  */
-void fill_unmasked(size_t wires)
+static void fill_harmless(size_t wires, uint64_t lowest, uint64_t settings)
 {
     for (size_t wire = 0; wire < wires; wire++) {
         uint64_t outer = random_below(ONE_OUTER_IN) == 0;
-        write_record(wire, outer ? 0 : (uint64_t)1 << random_below(64), 0, 0, 0, outer);
+        uint64_t products = outer ? 0 : (uint64_t)1 << random_below(64);
+        write_record(wire, products, lowest + random_below(settings), 0, 0, outer);
     }
+}
+
+void fill_unmasked(size_t wires)
+{
+    fill_harmless(wires, 0, 1);
+}
+
+void fill_same_mask(size_t wires)
+{
+    fill_harmless(wires, 1, 1);
+}
+
+void fill_few_masks(size_t wires, size_t masks)
+{
+    fill_harmless(wires, 0, (uint64_t)1 << masks);
 }
 
 /* Few masks and few bits. */
@@ -83,4 +104,21 @@ void fill_planted(size_t wires, size_t size)
             missing[i] ^= record[i];
         }
     }
+}
+
+size_t fill_gadget(const char *name, size_t *order)
+{
+    uint8_t text[CALDUVREN_MAX_TEXT_BYTES];
+    size_t length = 0, shares = 0, masks = 0, wires = 0, offset = 0;
+    FILE *file = fopen(name, "rb");
+    if (file != NULL) {
+        length = fread(text, 1, sizeof text, file);
+        fclose(file);
+    }
+    calduvren_status status = calduvren_read_text(text, length, table, sizeof table, order, &shares, &masks, &wires,
+                                                  &offset);
+    if (status == CALDUVREN_OK)
+        return wires;
+    printf("bench: %s is refused with %" PRIu64 " at %zu, or can not be read\n", name, status, offset);
+    exit(1);
 }
