@@ -9,6 +9,7 @@
 #include <string.h>
 
 #include "calduvren.h"
+#include "directed.h"
 #include "engine.h"
 #include "sets.h"
 #include "tables.h"
@@ -19,6 +20,7 @@
 #define FEW_WIRES 16
 #define VERDICT_WIRES 12 /* 3,301 sets of up to 7 wires */
 #define SEARCHES 3
+#define VERDICTS 3
 
 static const struct {
     const char *name;
@@ -29,7 +31,16 @@ static const struct {
     {"C by exchange", walk_by_exchange},
 };
 
-/* What all three find first: its rank, with its set in `set`, or `to`. */
+static const struct {
+    const char *name;
+    size_t (*first_size)(const uint8_t *table, size_t wires, size_t notion, size_t order, uint16_t *set);
+} verdicts[VERDICTS] = {
+    {"the verdict", engine_verdict},
+    {"the directed verdict", engine_directed_verdict},
+    {"C directed", directed_verdict},
+};
+
+/* What all three searches find first: its rank, with its set in `set`, or `to`. */
 static uint64_t agreed(const struct range *range, uint16_t *set)
 {
     uint16_t sets[SEARCHES][CALDUVREN_MAX_SIZE];
@@ -49,7 +60,8 @@ static uint64_t agreed(const struct range *range, uint16_t *set)
     return ranks[0];
 }
 
-/* What all three find first in rising size, and the verdict too: the size, or 0 where none up to the order breaks. */
+/* What the searches find first in rising size, and the verdicts too: the size, or 0 where none up to the order
+ * breaks. */
 static size_t agreed_verdict(size_t wires, size_t notion, size_t order)
 {
     uint16_t set[CALDUVREN_MAX_SIZE], first[CALDUVREN_MAX_SIZE];
@@ -59,11 +71,13 @@ static size_t agreed_verdict(size_t wires, size_t notion, size_t order)
         if (agreed(&range, first) < range.to)
             found = size;
     }
-    size_t told = engine_verdict(table, wires, notion, order, set);
-    if (told != found || memcmp(set, first, sizeof *set * found) != 0) {
-        printf("bench: %zu wires, notion %zu, order %zu: the verdict gives size %zu, the searches give %zu, or another"
-               " set\n", wires, notion, order, told, found);
-        exit(1);
+    for (size_t i = 0; i < VERDICTS; i++) {
+        size_t told = verdicts[i].first_size(table, wires, notion, order, set);
+        if (told != found || memcmp(set, first, sizeof *set * found) != 0) {
+            printf("bench: %zu wires, notion %zu, order %zu: %s gives size %zu, the searches give %zu, or another"
+                   " set\n", wires, notion, order, verdicts[i].name, told, found);
+            exit(1);
+        }
     }
     return found;
 }
@@ -105,8 +119,8 @@ static void compare_verdicts(void)
             fill_planted(wires, 1 + random_below(CALDUVREN_MAX_SIZE));
         told[agreed_verdict(wires, 1 + random_below(2), 1 + random_below(CALDUVREN_MAX_ORDER))]++;
     }
-    printf("the verdict agrees with them on %u random tables that hold, and by size from 1 on those that break:",
-           told[0]);
+    printf("the verdict, the directed verdict and C directed agree with them on %u random tables that hold, and by size"
+           " from 1 on those that break:", told[0]);
     for (size_t size = 1; size <= CALDUVREN_MAX_SIZE; size++)
         printf(" %u", told[size]);
     printf("\n");

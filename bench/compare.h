@@ -1,5 +1,5 @@
 /*
- * Whether the engine and the two C searches find the same: before anything is timed.
+ * Whether the engine and the searches in C find the same: before anything is timed.
  */
 #ifndef COMPARE_H
 #define COMPARE_H
