@@ -74,36 +74,38 @@ static void time_gadgets(void)
         }
 }
 
-static void time_against_walk(const struct task *task, const char *name)
+static void time_against_walk(const struct task *task, const char *name, double target)
 {
     double times[SEARCHES][TURNS];
     time_by_turns(searches, SEARCHES, task, times);
     print_task(task, name);
     printf(" %9" PRIu64 " %9.3f %9.3f %9.3f", nodes_of(task), median(times[C]) / MILLISECOND,
            median(times[WALK]) / MILLISECOND, median(times[DIRECTED]) / MILLISECOND);
-    print_ratio(times[WALK], times[DIRECTED], TARGET_WALK);
+    print_ratio(times[WALK], times[DIRECTED], target);
     printf("\n");
     fflush(stdout);
 }
 
-static void time_both_notions(size_t wires, size_t order, const char *name)
+static void time_both_notions(size_t wires, size_t order, const char *name, double target)
 {
     for (size_t notion = CALDUVREN_NI; notion <= CALDUVREN_SNI; notion++)
-        time_against_walk(&(struct task){wires, notion, order}, name);
+        time_against_walk(&(struct task){wires, notion, order}, name, target);
 }
 
-static void time_few_masks(void)
+static void time_tables(void)
 {
     printf("%-14s %-6s %5s %5s %9s %9s %9s %9s %6s %6s\n", "masks", "notion", "wires", "order", "nodes", "C", "verdict",
            "directed", "ratio", "least");
     fill_few_masks(60, 10);
-    time_both_notions(60, 6, "10, at random");
+    time_both_notions(60, 6, "10, at random", TARGET_WALK);
     fill_few_masks(100, 20);
-    time_both_notions(100, 5, "20, at random");
+    time_both_notions(100, 5, "20, at random", TARGET_WALK);
     fill_same_mask(60);
-    time_both_notions(60, 6, "one, in all");
+    time_both_notions(60, 6, "one, in all", TARGET_WALK);
     fill_unmasked(60);
-    time_both_notions(60, 6, "none");
+    time_both_notions(60, 6, "none", TARGET_WALK);
+    fill_dense_masks(60); /* no target: here the walk is the search to take */
+    time_both_notions(60, 5, "64, dense", 0);
 }
 
 void time_directed(void)
@@ -112,5 +114,5 @@ void time_directed(void)
     printf("targets: directed verdict to C at most %.1f, to the verdict at most %.1f\n\n", TARGET_C, TARGET_WALK);
     time_gadgets();
     printf("\n");
-    time_few_masks();
+    time_tables();
 }

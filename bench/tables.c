@@ -77,6 +77,15 @@ void fill_few_masks(size_t wires, size_t masks)
     fill_harmless(wires, 0, (uint64_t)1 << masks);
 }
 
+/* Each of the 64 masks is in seven wires of eight. */
+void fill_dense_masks(size_t wires)
+{
+    fill_unmasked(wires);
+    for (size_t wire = 0; wire < wires; wire++)
+        for (size_t i = 8; i < 16; i++)
+            table[CALDUVREN_RECORD_BYTES * wire + i] = (uint8_t)(random_word() | random_word() | random_word());
+}
+
 /* Few masks and few bits. */
 void fill_mixed(size_t wires)
 {

@@ -26,6 +26,9 @@ void fill_same_mask(size_t wires);
 /* The same, with so many masks, each in a wire or not at random: few enough that many sums are left without one. */
 void fill_few_masks(size_t wires, size_t masks);
 
+/* The same, with masks that most wires carry: each takes most wires to be tried, and few sums are left without one. */
+void fill_dense_masks(size_t wires);
+
 /* Some sets break and some do not, and sums cancel. */
 void fill_mixed(size_t wires);
 

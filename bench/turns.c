@@ -77,5 +77,5 @@ double median(const double *times)
 void print_ratio(const double *yardstick, const double *held, double target)
 {
     double ratio = median(held) / median(yardstick);
-    printf(" %6.2f %6.2f %4s", ratio, held[0] / yardstick[0], ratio <= target ? "ok" : "not");
+    printf(" %6.2f %6.2f %4s", ratio, held[0] / yardstick[0], target == 0 ? "" : ratio <= target ? "ok" : "not");
 }

@@ -30,7 +30,7 @@ void time_by_turns(search *const *searches, size_t number, const struct task *ta
 double median(const double *times);
 
 /* Prints the ratio of the medians of what is held against a yardstick, that of the least of the turns, and whether the
- * first is within the target. */
+ * first is within the target; a target of 0 is none. */
 void print_ratio(const double *yardstick, const double *held, double target);
 
 #endif
