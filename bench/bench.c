@@ -1,8 +1,8 @@
 /*
  * Times the engine's range check against the C of walk.h that keeps a running sum, and the engine's verdict against its
- * range check, in one run and by turns, over tables that hold: every set is visited. Before that the searches have to
- * agree (compare.h). A ratio is called ok or not by its target; no time decides on the exit status. `bench/run` builds
- * and runs it.
+ * range check, in one run and by turns, over tables that hold: every set is visited. The directed verdict follows
+ * (directed_times.h). Before that the searches have to agree (compare.h). A ratio is called ok or not by its target; no
+ * time decides on the exit status. `bench/run` builds and runs it.
  *
  * exit status: 0 the times were printed; 1 the searches differ
  */
