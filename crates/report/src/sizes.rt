@@ -25,7 +25,9 @@ pub fn warn(sets: u64) {
     say_number(b"report: up to ", sets);
     say(b" sets to look at, at worst some ");
     say_time(sets / SETS_A_SECOND);
-    say(b", a second where few wires share a mask; docs/GUIDE.md tells how to divide them over machines\n");
+    say(
+        b", a second where few wires share a mask; docs/GUIDE.md tells how to divide them over machines\n",
+    );
 }
 
 fn say_time(seconds: u64) {

@@ -14,7 +14,7 @@ use Rattle.directed_search.proofs.first_set.Tie as tie
 
 abbrev Inv-loop : tie.InvT-loop
 Inv-loop table notion order probes₀ wires counts ones carriers rarity size₀ probes size =
-    (length probes ≡ length probes₀) × (1 ≤ size) × (size ≤ order + 1) × Smaller (isBreaking notion table maxShares maxMasks) (wireCount table) size
+    Smaller (isBreaking notion table maxShares maxMasks) (wireCount table) size × (length probes ≡ length probes₀) × (1 ≤ size) × (size ≤ order + 1)
 
 abbrev μ-loop : tie.MeasureT-loop
 μ-loop table notion order probes₀ wires counts ones carriers rarity size₀ probes size = order + 1 - size
@@ -32,14 +32,14 @@ rarest-first-requires : tie.Need-rarest-first-requires Inv-loop μ-loop
 rarest-first-requires c κs = search needs
 
 loop-holds : tie.Need-loop-holds Inv-loop μ-loop
-loop-holds c = (refl, search needs, search needs, no-smaller _ _)
+loop-holds c = (no-smaller _ _, refl, search needs, search needs)
 
 least-rank-requires : tie.Need-least-rank-requires Inv-loop μ-loop
 least-rank-requires c κs =
     let p = c .before .before .before .before .before .before .before .before .before .before .before .before .before .pre in
     let i = c .before .before .before .before .before .loop .inv in
     let taken = c .before .before .before .before .loop-test .taken in
-    ((c .before .before .before .before .before .before .before .before .before .before .table .ensures, c .before .before .before .before .before .before .before .before .before .table2 .ensures, c .before .before .before .before .before .before .before .before .carriers .ensures), (p .0, i .1, omega (arith, taken, p .1), none-below _ _ _ (i .3)))
+    ((c .before .before .before .before .before .before .before .before .before .before .table .ensures, c .before .before .before .before .before .before .before .before .before .table2 .ensures, c .before .before .before .before .before .before .before .before .carriers .ensures), (p .0, i .2, omega (arith, taken, p .1), none-below _ _ _ (i .0)))
 
 count-requires : tie.Need-count-requires Inv-loop μ-loop
 count-requires c κs = search needs
@@ -53,7 +53,7 @@ same-length c = search needs
 returns : tie.Need-returns Inv-loop μ-loop
 returns c =
     let i = c .before .before .before .before .before .before .before .before .before .before .before .before .before .before .loop .inv in
-    size-found _ _ _ _ (i .3) (c .before .before .before .before .before .before .before .before .least-rank .ensures) _ _ _ (i .1) (c .before .before .before .before .before .before .before .before .before .before .before .before .before .loop-test .taken) (omega (arith, c .before .before .before .before .before .if1 .taken, c .before .before .before .before .before .before .count .ensures)) (c .before .before .unrank .ensures)
+    size-found _ _ _ _ (i .0) (c .before .before .before .before .before .before .before .before .least-rank .ensures) _ _ _ (i .2) (c .before .before .before .before .before .before .before .before .before .before .before .before .before .loop-test .taken) (omega (arith, c .before .before .before .before .before .if1 .taken, c .before .before .before .before .before .before .count .ensures)) (c .before .before .unrank .ensures)
 
 add-size : tie.Need-add-size Inv-loop μ-loop
 add-size c = search needs
@@ -64,8 +64,8 @@ loop-less c = search needs
 loop-again : tie.Need-loop-again Inv-loop μ-loop
 loop-again c =
     let i = c .before .before .before .before .before .before .before .before .before .before .loop .inv in
-    let done = size-done _ _ _ _ (i .3) (c .before .before .before .before .least-rank .ensures) (omega (arith, c .before .if1 .left, c .before .before .count .ensures)) in
-    (i .0, search needs, omega (arith, c .before .before .before .before .before .before .before .before .before .loop-test .taken), done)
+    let done = size-done _ _ _ _ (i .0) (c .before .before .before .before .least-rank .ensures) (omega (arith, c .before .if1 .left, c .before .before .count .ensures)) in
+    (done, i .1, search needs, omega (arith, c .before .before .before .before .before .before .before .before .before .loop-test .taken))
 
 same-length-2 : tie.Need-same-length-2 Inv-loop μ-loop
 same-length-2 c = search needs
@@ -73,7 +73,7 @@ same-length-2 c = search needs
 returns-2 : tie.Need-returns-2 Inv-loop μ-loop
 returns-2 c =
     let i = c .before .loop .inv in
-    sizes-done _ _ _ _ _ _ (i .3) refl (omega (arith, c .loop-test .left)) (i .2)
+    sizes-done _ _ _ _ _ _ (i .0) refl (omega (arith, c .loop-test .left)) (i .3)
 
 same-length-3 : tie.Need-same-length-3 Inv-loop μ-loop
 same-length-3 c = search needs
@@ -81,7 +81,7 @@ same-length-3 c = search needs
 returns-3 : tie.Need-returns-3 Inv-loop μ-loop
 returns-3 c =
     let i = c .before .before .before .before .before .before .before .before .before .before .loop .inv in
-    let done = size-done _ _ _ _ (i .3) (c .before .before .before .before .least-rank .ensures) (omega (arith, c .before .if1 .left, c .before .before .count .ensures)) in
+    let done = size-done _ _ _ _ (i .0) (c .before .before .before .before .least-rank .ensures) (omega (arith, c .before .if1 .left, c .before .before .count .ensures)) in
     sizes-done _ _ _ _ _ _ done refl (omega (arith, c .if2 .left)) (omega (arith, c .before .before .before .before .before .before .before .before .before .loop-test .taken))
 
 pub first-set-spec : {M : Type 1} → statement M

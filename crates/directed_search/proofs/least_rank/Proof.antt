@@ -14,7 +14,7 @@ use Rattle.directed_search.proofs.least_rank.Tie as tie
 
 abbrev Inv-loop : tie.InvT-loop
 Inv-loop table counts ones carriers order notion size wires none marks₀ top₀ marks top =
-    (top ≤ wires) × Rooted top marks × Passed (isBreaking notion table maxShares maxMasks) (wireCount table) size top
+    Rooted top marks × Passed (isBreaking notion table maxShares maxMasks) (wireCount table) size top × (top ≤ wires)
 
 abbrev μ-loop : tie.MeasureT-loop
 μ-loop table counts ones carriers order notion size wires none marks₀ top₀ marks top = wires - top
@@ -23,7 +23,7 @@ count-requires : tie.Need-count-requires Inv-loop μ-loop
 count-requires c κs = search needs
 
 loop-holds : tie.Need-loop-holds Inv-loop μ-loop
-loop-holds c = (search needs, all-closed, none-passed _ _ _ (c .before .before .pre .1 .1))
+loop-holds c = (all-closed, none-passed _ _ _ (c .before .before .pre .1 .1), search needs)
 
 array-write-marks : tie.Need-array-write-marks Inv-loop μ-loop
 array-write-marks c = omega (arith, c .loop-test .taken, few-wires (c .before .before .before .before .args .table .now) (c .before .before .before .before .pre .1 .0))
@@ -42,13 +42,13 @@ descend-requires c κs =
     let p = c .before .before .before .before .before .before .pre in
     let few = few-wires (c .before .before .before .before .before .before .args .table .now) (p .1 .0) in
     let taken = c .before .before .loop-test .taken in
-    (p .0, ((p .1 .0, p .1 .2, p .1 .3), root _ _ (c .before .before .before .loop .inv .1) (omega (arith, taken, few)) _ _ _ few taken _ _ (p .1 .1) (c .before .wire-record .ensures) (c .pay .ensures .0)))
+    (p .0, ((p .1 .0, p .1 .2, p .1 .3), root _ _ (c .before .before .before .loop .inv .0) (omega (arith, taken, few)) _ _ _ few taken _ _ (p .1 .1) (c .before .wire-record .ensures) (c .pay .ensures .0)))
 
 returns : tie.Need-returns Inv-loop μ-loop
 returns c =
     let p = c .before .before .before .before .before .before .before .before .pre in
     let i = c .before .before .before .before .before .loop .inv in
-    top-found _ (c .before .before .before .before .before .before .before .before .args .notion) (c .before .before .before .before .before .before .before .before .args .table .now) _ _ _ (i .1) (few-wires (c .before .before .before .before .before .before .before .before .args .table .now) (p .1 .0)) (c .before .before .before .before .loop-test .taken) (i .2) _ _ (c .before .before .before .before .before .before .count .ensures) (c .before .descend .ensures) (c .if1 .taken)
+    top-found _ (c .before .before .before .before .before .before .before .before .args .notion) (c .before .before .before .before .before .before .before .before .args .table .now) _ _ _ (i .0) (few-wires (c .before .before .before .before .before .before .before .before .args .table .now) (p .1 .0)) (c .before .before .before .before .loop-test .taken) (i .1) _ _ (c .before .before .before .before .before .before .count .ensures) (c .before .descend .ensures) (c .if1 .taken)
 
 array-write-marks-2 : tie.Need-array-write-marks-2 Inv-loop μ-loop
 array-write-marks-2 c = omega (arith, c .before .before .before .before .loop-test .taken, few-wires (c .before .before .before .before .before .before .before .before .args .table .now) (c .before .before .before .before .before .before .before .before .pre .1 .0))
@@ -65,13 +65,13 @@ loop-again c =
     let i = c .before .before .before .before .before .loop .inv in
     let few = few-wires (c .before .before .before .before .before .before .before .before .args .table .now) (p .1 .0) in
     let taken = c .before .before .before .before .loop-test .taken in (
+      next-top _ _ (i .0) (omega (arith, taken, few)),
+      top-done _ (c .before .before .before .before .before .before .before .before .args .notion) (c .before .before .before .before .before .before .before .before .args .table .now) _ _ _ (i .0) few taken (i .1) _ _ (c .before .before .before .before .before .before .count .ensures) (c .before .descend .ensures) (c .if1 .left),
       omega (arith, taken),
-      next-top _ _ (i .1) (omega (arith, taken, few)),
-      top-done _ (c .before .before .before .before .before .before .before .before .args .notion) (c .before .before .before .before .before .before .before .before .args .table .now) _ _ _ (i .1) few taken (i .2) _ _ (c .before .before .before .before .before .before .count .ensures) (c .before .descend .ensures) (c .if1 .left),
     )
 
 returns-2 : tie.Need-returns-2 Inv-loop μ-loop
-returns-2 c = let i = c .before .loop .inv in all-done _ _ _ _ _ (i .2) (c .loop-test .left) (i .0) (c .before .before .count .ensures)
+returns-2 c = let i = c .before .loop .inv in all-done _ _ _ _ _ (i .1) (c .loop-test .left) (i .2) (c .before .before .count .ensures)
 
 pub least-rank-spec : {M : Type 1} → statement M
 least-rank-spec =
