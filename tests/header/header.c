@@ -308,6 +308,35 @@ static void verdict(void)
     REFUSES(JUDGE(table_b, sizeof table_b, 2, 1, CALDUVREN_NI, 1, 0), BUFFER);
 }
 
+/* The same calls as of calduvren_verdict, with the same answers. */
+#define DIRECT(table, table_length, shares, masks, notion, order, set_length) \
+    calduvren_directed_verdict(table, table_length, shares, masks, notion, order, lent.set, set_length, &lent.holds, \
+                               &lent.size)
+
+static void directed_verdict(void)
+{
+    wanted.holds = 1;
+    ANSWERS(DIRECT(table_a, sizeof table_a, 2, 1, CALDUVREN_NI, 1, 1));
+    wanted.holds = 1;
+    ANSWERS(DIRECT(table_a, sizeof table_a, 2, 1, CALDUVREN_SNI, 1, 1));
+    want_broken(6);
+    ANSWERS(DIRECT(table_b, sizeof table_b, 2, 1, CALDUVREN_NI, 1, 1));
+    want_broken(6);
+    ANSWERS(DIRECT(table_b, sizeof table_b, CALDUVREN_MAX_SHARES, CALDUVREN_MAX_MASKS, CALDUVREN_SNI,
+                   CALDUVREN_MAX_ORDER, CALDUVREN_MAX_ORDER));
+    wanted.holds = 1;
+    ANSWERS(DIRECT(table_c, sizeof table_c, 2, 0, CALDUVREN_NI, 1, 1));
+    want_broken(2);
+    ANSWERS(DIRECT(table_c, sizeof table_c, 2, 0, CALDUVREN_SNI, 1, 1));
+    REFUSES(DIRECT(table_b, sizeof table_b, 1, 1, CALDUVREN_NI, 1, 1), SHARES_OR_MASKS);
+    REFUSES(DIRECT(table_b, sizeof table_b, 2, CALDUVREN_MAX_MASKS + 1, CALDUVREN_NI, 1, 1), SHARES_OR_MASKS);
+    REFUSES(DIRECT(table_b, sizeof table_b - 1, 2, 1, CALDUVREN_NI, 1, 1), TABLE_LENGTH);
+    REFUSES(DIRECT(table_b, sizeof table_b, 2, 0, CALDUVREN_NI, 1, 1), RECORD);
+    REFUSES(DIRECT(table_b, sizeof table_b, 2, 1, 3, 1, 1), NOTION);
+    REFUSES(DIRECT(table_b, sizeof table_b, 2, 1, CALDUVREN_NI, 2, 2), ORDER);
+    REFUSES(DIRECT(table_b, sizeof table_b, 2, 1, CALDUVREN_NI, 1, 0), BUFFER);
+}
+
 #define RANGE(table_length, shares, masks, notion, size_asked, from, to, set_length) \
     calduvren_range_check(table_b, table_length, shares, masks, notion, size_asked, from, to, lent.set, set_length, \
                           &lent.clean, &lent.size, &lent.rank)
@@ -440,6 +469,8 @@ static void no_elements(void)
     REFUSES(CHECK_SIZE(&none, 0, 0), FIRST_LINE);
     wanted.holds = 1; /* a table of no wires */
     ANSWERS(JUDGE(&none, 0, 2, 0, CALDUVREN_SNI, 1, 1));
+    wanted.holds = 1;
+    ANSWERS(DIRECT(&none, 0, 2, 0, CALDUVREN_SNI, 1, 1));
     want_dependence(0, 0, 0, 0);
     ANSWERS(DEPENDS(&none, 0, 2, 0, CALDUVREN_SNI, &no_wire, 0));
     ANSWERS(calduvren_set_from_rank(24, 0, 0, &no_wire, 0));
@@ -499,6 +530,7 @@ int main(void)
     text_part();
     function_check();
     verdict();
+    directed_verdict();
     range_check();
     set_dependence();
     numbering();
