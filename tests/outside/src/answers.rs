@@ -1,6 +1,6 @@
 //! The entries and their answers: all that the scope gives each of them, and all of it has to be reached in a run.
 
-/// The thirteen entries, in the header's order.
+/// The fourteen entries, in the header's order.
 #[derive(Clone, Copy, PartialEq, Eq, PartialOrd, Ord, Debug)]
 pub enum Entry {
     ReadText,
@@ -8,6 +8,7 @@ pub enum Entry {
     CheckSize,
     FunctionCheck,
     Verdict,
+    DirectedVerdict,
     RangeCheck,
     SetDependence,
     SetCount,
@@ -23,7 +24,7 @@ pub type Answer = (u64, &'static str);
 
 /// The entries with their names and every answer that has to be reached, which is every one that the scope gives them.
 /// The refusals stand in the order in which they are tested; the header has to list them so too.
-pub const REQUIRED: [(Entry, &str, &[Answer]); 13] = [
+pub const REQUIRED: [(Entry, &str, &[Answer]); 14] = [
     (
         Entry::ReadText,
         "read_text",
@@ -88,6 +89,20 @@ pub const REQUIRED: [(Entry, &str, &[Answer]); 13] = [
     (
         Entry::Verdict,
         "verdict",
+        &[
+            (0, "holds"),
+            (0, "broken"),
+            (11, ""),
+            (12, ""),
+            (13, ""),
+            (14, ""),
+            (15, ""),
+            (16, ""),
+        ],
+    ),
+    (
+        Entry::DirectedVerdict,
+        "directed_verdict",
         &[
             (0, "holds"),
             (0, "broken"),

@@ -1,5 +1,19 @@
 //! The C interface, word for word from include/calduvren.h.
 
+/// What the two entries that give a verdict have in common.
+pub type Verdict = unsafe extern "C" fn(
+    table: *const u8,
+    table_length: usize,
+    shares: usize,
+    masks: usize,
+    notion: usize,
+    order: usize,
+    set: *mut u16,
+    set_length: usize,
+    holds: *mut u64,
+    size: *mut usize,
+) -> u64;
+
 extern "C" {
     pub fn calduvren_read_text(
         text: *const u8,
@@ -42,6 +56,18 @@ extern "C" {
         yes: *mut u64,
     ) -> u64;
     pub fn calduvren_verdict(
+        table: *const u8,
+        table_length: usize,
+        shares: usize,
+        masks: usize,
+        notion: usize,
+        order: usize,
+        set: *mut u16,
+        set_length: usize,
+        holds: *mut u64,
+        size: *mut usize,
+    ) -> u64;
+    pub fn calduvren_directed_verdict(
         table: *const u8,
         table_length: usize,
         shares: usize,

@@ -1,4 +1,4 @@
-//! The engine under test: the thirteen functions of include/calduvren.h, each behind a safe wrapper that lends guarded
+//! The engine under test: the fourteen functions of include/calduvren.h, each behind a safe wrapper that lends guarded
 //! memory and gives back what the call left there.
 
 mod entries;
@@ -6,6 +6,7 @@ mod lent;
 
 pub use lent::Lent;
 
+use crate::answers::Entry;
 use crate::reply::Reply;
 
 // In every wrapper the block outlives the call and has room for each piece, which is all that the calls ask for.
@@ -87,7 +88,20 @@ pub fn function_check(table: &[u8], shares: usize, masks: usize, function: usize
     lent.reply(status, &[yes], None)
 }
 
-pub fn verdict(table: &[u8], [shares, masks, notion, order, set_length]: [usize; 5]) -> Reply {
+/// The entries that give a verdict. Their arguments and answers are the same, and so one model is that of both.
+pub const VERDICTS: [(Entry, AskVerdict); 2] = [(Entry::Verdict, verdict), (Entry::DirectedVerdict, directed_verdict)];
+/// On a table: shares, masks, notion, order and how many wire numbers are lent.
+pub type AskVerdict = fn(&[u8], [usize; 5]) -> Reply;
+
+pub fn verdict(table: &[u8], numbers: [usize; 5]) -> Reply {
+    ask_verdict(entries::calduvren_verdict, table, numbers)
+}
+
+pub fn directed_verdict(table: &[u8], numbers: [usize; 5]) -> Reply {
+    ask_verdict(entries::calduvren_directed_verdict, table, numbers)
+}
+
+fn ask_verdict(entry: entries::Verdict, table: &[u8], [shares, masks, notion, order, set_length]: [usize; 5]) -> Reply {
     let mut lent = Lent::new();
     let (table, set) = (lent.bytes_with(table), lent.wire_numbers(set_length));
     let numbers = [lent.number(), lent.number()];
@@ -95,7 +109,7 @@ pub fn verdict(table: &[u8], [shares, masks, notion, order, set_length]: [usize;
     let (table_at, length, set_at) = (table.at(base), table.elements(), set.at(base));
     let (holds, size) = (numbers[0].at(base), numbers[1].at(base));
     let status = unsafe {
-        entries::calduvren_verdict(
+        entry(
             table_at, length, shares, masks, notion, order, set_at, set_length, holds, size,
         )
     };

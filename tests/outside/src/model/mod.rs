@@ -1,5 +1,5 @@
-//! The model: the scope written down a second time, as a program of its own. Here are the thirteen entries, each with its
-//! refusals in the scope's order; the modules hold what they rest on.
+//! The model: the scope written down a second time, as a program of its own. Here are the fourteen entries, each with its
+//! refusals in the scope's order (the two that give a verdict are one here); the modules hold what they rest on.
 
 pub mod breaking;
 pub mod functions;
@@ -88,7 +88,8 @@ pub fn function_check(table: &[u8], shares: usize, masks: usize, function: usize
     Reply::answered(&[u64::from(yes)], Vec::new())
 }
 
-/// `most` bounds the sets that are looked at; a refusal comes before any.
+/// The reply to verdict and to directed_verdict, which differ only in how they search. `most` bounds the sets that are
+/// looked at; a refusal comes before any.
 pub fn verdict(
     table: &[u8],
     [shares, masks, notion, order, set_length]: [usize; 5],

@@ -22,17 +22,18 @@ pub const HEADER: &str = "include/calduvren.h";
 const CRATE: &str = "crates/calduvren/src";
 const EXPORTED: &str = "pub extern \"C\" fn ";
 /// Where the work of the exported functions is done, by functions of the same names without this word before them.
-const BELOW: [&str; 4] = [
+const BELOW: [&str; 5] = [
     "crates/set_calls/src",
     "crates/table_calls/src",
+    "crates/directed_calls/src",
     "crates/text_calls/src",
     "crates/size_calls/src",
 ];
 const BEFORE: &str = "calduvren_";
 /// The header's rule: a function more raises the version's minor number, another answer to the same call its major one.
 /// So these two change together.
-const FUNCTIONS: usize = 13;
-const VERSION: usize = 20_201;
+const FUNCTIONS: usize = 14;
+const VERSION: usize = 20_300;
 
 /// A function's arguments as C declares them.
 type Declarations = BTreeMap<String, Vec<String>>;

@@ -152,22 +152,22 @@ fn calls_on_table(random: &mut Random, table: &Table, order: usize, range: [u64;
         calls.push(call(Entry::FunctionCheck, "no", reply, engine));
     }
     for notion in 1..=2 {
-        let (for_verdict, for_range) = (table.clone(), table.clone());
         let numbers = [shares, masks, notion, order, MAX_SIZE];
         let Ok(reply) = model::verdict(&table, numbers, u64::MAX) else {
             unreachable!("any number may be searched")
         };
         let word = if reply.numbers[0] == Some(1) { "holds" } else { "broken" };
-        calls.push(call(Entry::Verdict, word, reply, move || {
-            engine::verdict(&for_verdict, numbers)
-        }));
+        for (entry, ask) in engine::VERDICTS {
+            let table = table.clone();
+            calls.push(call(entry, word, reply.clone(), move || ask(&table, numbers)));
+        }
         let wires = table.len() / RECORD_BYTES;
         let (for_set, set) = (table.clone(), from_rank(wires, MAX_SIZE, count(wires, MAX_SIZE) - 1));
         let reply = model::set_dependence(&table, [shares, masks, notion], &set);
         calls.push(call(Entry::SetDependence, dependence::word(&reply), reply, move || {
             engine::set_dependence(&for_set, [shares, masks, notion], &set)
         }));
-        let numbers = [shares, masks, notion, MAX_SIZE, MAX_SIZE];
+        let (for_range, numbers) = (table.clone(), [shares, masks, notion, MAX_SIZE, MAX_SIZE]);
         let reply = model::range_check(&table, numbers, range);
         let word = if reply.numbers[0] == Some(1) { "clean" } else { "found" };
         calls.push(call(Entry::RangeCheck, word, reply, move || {

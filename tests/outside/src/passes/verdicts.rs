@@ -1,4 +1,4 @@
-//! Function check and verdict on tables of every kind, sound and turned down.
+//! Function check and both entries for a verdict on tables of every kind, sound and turned down.
 
 use crate::answers::Entry;
 use crate::engine;
@@ -126,15 +126,19 @@ pub fn ask_function(tally: &mut Tally, call: &TableCall, function: usize) {
     tally.compare(Entry::FunctionCheck, word, &model, &reply, input);
 }
 
+/// Of both entries that give a verdict; the first one's reply, which the other's has to be too.
 pub fn ask_verdict(tally: &mut Tally, call: &TableCall, [notion, order, set_length]: [usize; 3]) -> Reply {
     let numbers = [call.shares, call.masks, notion, order, set_length];
     let Ok(model) = model::verdict(&call.table, numbers, u64::MAX) else {
         unreachable!("any number may be searched")
     };
-    let reply = engine::verdict(&call.table, numbers);
     let word = if model.numbers[0] == Some(1) { "holds" } else { "broken" };
     let input = || format!("notion {notion} order {order} set_length {set_length} {}", call.show());
-    tally.compare(Entry::Verdict, word, &model, &reply, input);
+    let [reply, _] = engine::VERDICTS.map(|(entry, ask)| {
+        let reply = ask(&call.table, numbers);
+        tally.compare(entry, word, &model, &reply, input);
+        reply
+    });
     if model.status == 0 {
         let records = parse(&call.table);
         note_kind(tally, &records, notion, &model.written);

@@ -78,8 +78,8 @@ fn breaks_alone(table: &Table, sizes: &[Stretch], set: &Vec<u16>, breaks: Breaks
     breaking(NI) == by_ni && breaking(SNI) == [set]
 }
 
-/// How many calls are made on a table: every range of the sizes that are to be walked, the whole of each size, and a
-/// verdict at each order.
+/// How many calls are made on a table: every range of the sizes that are to be walked, the whole of each size, and
+/// the two verdicts at each order.
 fn walk_all(
     tally: &mut Tally,
     sizes: &[Stretch],
@@ -99,14 +99,15 @@ fn walk_all(
         .map(|size| ask(tally, call, size, notion, [0, size.stretch.end()]));
     let whole: Vec<Reply> = whole.collect();
     for order in 1..table.shares {
-        let reply = ask_verdict(tally, call, &judged, [notion, order]);
-        if reply != put_together(&whole[1..=order]) {
-            let what = format!("Verdict notion {notion} order {order}: not as its ranges");
-            tally.differs(|| format!("{what} {}", call.show()));
+        for reply in ask_verdicts(tally, call, &judged, [notion, order]) {
+            if reply != put_together(&whole[1..=order]) {
+                let what = format!("Verdict notion {notion} order {order}: not as its ranges");
+                tally.differs(|| format!("{what} {}", call.show()));
+            }
+            faults::walks::verdict(tally, &sizes[1..=order], &table.records, notion, &reply);
         }
-        faults::walks::verdict(tally, &sizes[1..=order], &table.records, notion, &reply);
     }
-    ranges + whole.len() + table.shares - 1
+    ranges + whole.len() + engine::VERDICTS.len() * (table.shares - 1)
 }
 
 /// How many ranges a size has.
@@ -163,16 +164,19 @@ pub fn ask(tally: &mut Tally, call: &TableCall, judged: &Judged, notion: usize, 
     reply
 }
 
-fn ask_verdict(tally: &mut Tally, call: &TableCall, judged: &[Judged], [notion, order]: [usize; 2]) -> Reply {
+/// The replies of both entries that give a verdict.
+fn ask_verdicts(tally: &mut Tally, call: &TableCall, judged: &[Judged], [notion, order]: [usize; 2]) -> [Reply; 2] {
     let numbers = [call.shares, call.masks, notion, order, order + order % 3];
-    let reply = engine::verdict(&call.table, numbers);
     let model = stretch::verdict(&judged[1..=order]);
     let agrees = model::verdict(&call.table, numbers, u64::MAX).is_ok_and(|searched| searched == model);
     assert!(agrees, "the model contradicts itself");
     let word = if model.numbers[0] == Some(1) { "holds" } else { "broken" };
     let input = || format!("notion {notion} order {order} {}", call.show());
-    tally.compare(Entry::Verdict, word, &model, &reply, input);
-    reply
+    engine::VERDICTS.map(|(entry, ask)| {
+        let reply = ask(&call.table, numbers);
+        tally.compare(entry, word, &model, &reply, input);
+        reply
+    })
 }
 
 /// The verdict that follows from range checks of all sets of each size, which rise.

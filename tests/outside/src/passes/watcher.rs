@@ -59,7 +59,7 @@ fn any_table(random: &mut Random) -> Table {
     }
 }
 
-/// Whether the notion holds by brute force, once the engine's verdict is compared with it.
+/// Whether the notion holds by brute force, once the verdicts of both the engine's entries are compared with it.
 fn compare(tally: &mut Tally, call: &TableCall, table: &Table, values: &Values, [notion, order]: [usize; 2]) -> bool {
     let mut holds = true;
     for size in 0..=order {
@@ -67,23 +67,25 @@ fn compare(tally: &mut Tally, call: &TableCall, table: &Table, values: &Values, 
             holds &= admits_choice(table, values, set, notion)
         });
     }
-    let reply = engine::verdict(&call.table, [call.shares, call.masks, notion, order, order]);
-    let right = match (reply.status, reply.numbers[0]) {
-        (0, Some(1)) => holds,
-        (0, Some(0)) => {
-            is_set(&reply.written, table, order)
-                && !admits_choice(table, values, &reply.written, notion)
-                && operands_are_right(tally, call, table, values, notion, &reply.written)
+    for (entry, ask) in engine::VERDICTS {
+        let reply = ask(&call.table, [call.shares, call.masks, notion, order, order]);
+        let right = match (reply.status, reply.numbers[0]) {
+            (0, Some(1)) => holds,
+            (0, Some(0)) => {
+                is_set(&reply.written, table, order)
+                    && !admits_choice(table, values, &reply.written, notion)
+                    && operands_are_right(tally, call, table, values, notion, &reply.written)
+            }
+            _ => false,
+        };
+        if !right || !reply.rest_kept {
+            tally.differs(|| {
+                format!(
+                    "watcher: {entry:?}, holds is {holds}, notion {notion} order {order} {}\n    engine: {reply}",
+                    call.show()
+                )
+            });
         }
-        _ => false,
-    };
-    if !right || !reply.rest_kept {
-        tally.differs(|| {
-            format!(
-                "watcher: holds is {holds}, notion {notion} order {order} {}\n    engine: {reply}",
-                call.show()
-            )
-        });
     }
     holds
 }
