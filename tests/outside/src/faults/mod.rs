@@ -3,6 +3,7 @@
 
 mod counts;
 pub mod dependence;
+pub mod directed;
 pub mod isw;
 pub mod notes;
 pub mod plan;
@@ -150,6 +151,7 @@ pub fn name_all(tally: &mut Tally) {
     words::name_all(tally);
     notes::name_all(tally);
     dependence::name_all(tally);
+    directed::name_all(tally);
     isw::name_all(tally);
     sizes::name_all(tally);
     plan::name_all(tally);

@@ -1,8 +1,10 @@
 //! The passes of a run. Each compares some entries with the model on inputs of its own, drawn from its own stream of
 //! random numbers, so that a change to one pass leaves the inputs of the others as they were.
 
+mod alike;
 mod dependence;
 pub mod examples;
+mod far;
 mod guards;
 mod header;
 mod isw;
@@ -12,6 +14,7 @@ mod large;
 mod noted;
 mod plan_program;
 mod programs;
+mod quick;
 mod ranges;
 mod refusals;
 mod reports;
@@ -31,7 +34,7 @@ use crate::tally::Tally;
 
 type Pass = fn(&mut Random, &mut Tally);
 
-const PASSES: [Pass; 22] = [
+const PASSES: [Pass; 25] = [
     guards::run,
     examples::run,
     sets::run,
@@ -54,6 +57,9 @@ const PASSES: [Pass; 22] = [
     plan_program::run,
     walks::run,
     seams::run,
+    alike::run,
+    far::run,
+    quick::run,
 ];
 
 pub fn run_all(seed: u64, tally: &mut Tally) {

@@ -1,0 +1,172 @@
+//! The directed verdict in time: what the gadgets' folder has gets both verdicts within seconds, at its own order; and
+//! where nearly every set is left to look at, it does not take much longer than the other verdict. No call is waited for
+//! without end, and each has no more stack than the header asks for.
+
+use super::stack::STACK_BYTES;
+use crate::engine;
+use crate::inputs::calls::TableCall;
+use crate::inputs::files;
+use crate::inputs::tables::{record, Table};
+use crate::model::breaking::{NI, SNI};
+use crate::model::found_by_verdict;
+use crate::model::records::{Record, MAX_MASKS, MAX_SHARES, MAX_TABLE_BYTES};
+use crate::model::sets::MAX_SIZE;
+use crate::random::Random;
+use crate::reply::Reply;
+use crate::tally::Tally;
+use std::sync::mpsc::channel;
+use std::thread::Builder;
+use std::time::{Duration, Instant};
+
+/// For one verdict, on a slow machine too.
+const LIMIT: Duration = Duration::from_secs(20);
+
+/// Every text of the gadgets' folder, with the first breaking set for NI and for SNI, none where it holds. The answers
+/// for figures 8 and 9, the order 2 example and the scope's three texts are those of their sources; that the
+/// multiplication of Ishai, Sahai and Wagner is SNI at every order, and so NI, is long proved.
+const GADGETS: [(&str, [&[u16]; 2]); 13] = [
+    ("figure-8", [&[], &[]]),
+    ("figure-9-shares", [&[], &[]]),
+    ("figure-9", [&[], &[]]),
+    ("isw-1", [&[], &[]]),
+    ("isw-2", [&[], &[]]),
+    ("isw-3", [&[], &[]]),
+    ("isw-4", [&[], &[]]),
+    ("isw-5", [&[], &[]]),
+    ("isw-6", [&[], &[]]),
+    ("isw-7", [&[], &[]]),
+    ("leak-1", [&[6], &[6]]),
+    ("order-2-example", [&[], &[]]),
+    ("sum-1", [&[], &[2]]),
+];
+
+/// Wires of tables in which nearly every set is left to look at: of so many the sets of up to seven are 23 million.
+const WIRES_OF_DENSE: usize = 40;
+/// How much longer than the other verdict it may take there.
+const TIMES: u32 = 10;
+const MORE: Duration = Duration::from_secs(2);
+
+pub fn run(random: &mut Random, tally: &mut Tally) {
+    let Some(longest) = gadgets(tally) else { return };
+    let Some(factor) = dense(random, tally) else { return };
+    tally.say(format!(
+        "quick           both verdicts of {} gadgets at their own orders, the longest, {}, {:.0} ms; where most sets are \
+         left, {factor:.1} times as long as the other verdict at most",
+        GADGETS.len(),
+        longest.0,
+        1e3 * longest.1.as_secs_f64()
+    ));
+}
+
+/// What a call gives, and in what time; none where it takes longer than the limit. It has the header's stack and is left
+/// to itself then, so that no other should be made.
+pub fn within<T: Send + 'static>(limit: Duration, call: impl FnOnce() -> T + Send + 'static) -> Option<(T, Duration)> {
+    let (sender, receiver) = channel();
+    let timed = move || {
+        let start = Instant::now();
+        let given = call();
+        // Nobody may be waiting any more.
+        let _ = sender.send((given, start.elapsed()));
+    };
+    let thread = Builder::new().stack_size(STACK_BYTES).spawn(timed);
+    thread.expect("a thread can be started");
+    receiver.recv_timeout(limit).ok()
+}
+
+/// The gadget whose verdict took the longest; none where one took too long.
+fn gadgets(tally: &mut Tally) -> Option<(&'static str, Duration)> {
+    let paths = files::gadgets();
+    let names: Vec<_> = paths.iter().filter_map(|path| path.file_stem()?.to_str()).collect();
+    if names != GADGETS.map(|(name, _)| name) {
+        tally.differs(|| format!("quick: the gadgets are {names:?}, and of others the verdicts are known"));
+        return None;
+    }
+    let mut longest = ("", Duration::ZERO);
+    for (path, (name, first)) in paths.iter().zip(GADGETS) {
+        let reply = engine::read_text(&files::read(path), MAX_TABLE_BYTES);
+        let [Some(order), Some(shares), Some(masks), ..] = reply.numbers else {
+            panic!("{name} can be read")
+        };
+        let [order, shares, masks] = [order, shares, masks].map(|number| number as usize);
+        let table: Vec<u8> = reply.written.iter().map(|byte| *byte as u8).collect();
+        for (notion, first) in [NI, SNI].into_iter().zip(first) {
+            let (table, numbers) = (table.clone(), [shares, masks, notion, order, MAX_SIZE]);
+            let Some((reply, time)) = within(LIMIT, move || engine::directed_verdict(&table, numbers)) else {
+                tally.differs(|| format!("quick: {name} notion {notion}: no verdict in {LIMIT:?}"));
+                return None;
+            };
+            let wanted = found_by_verdict((!first.is_empty()).then(|| first.to_vec()));
+            if reply != wanted {
+                tally.differs(|| format!("quick: {name} notion {notion}\n    known:  {wanted}\n    engine: {reply}"));
+            }
+            if time > longest.1 {
+                longest = (name, time);
+            }
+        }
+    }
+    Some(longest)
+}
+
+/// How many times as long as the other verdict it took at most; none where it took too long.
+fn dense(random: &mut Random, tally: &mut Tally) -> Option<f64> {
+    let mut most: f64 = 0.0;
+    for table in dense_tables(random) {
+        let call = TableCall::new(random, &table);
+        let numbers = [call.shares, call.masks, NI, MAX_SIZE, MAX_SIZE];
+        let start = Instant::now();
+        let plain = engine::verdict(&call.table, numbers);
+        let time = start.elapsed();
+        let lent = call.table.clone();
+        let limit = TIMES * time + MORE;
+        let Some((reply, directed)) = within(limit, move || engine::directed_verdict(&lent, numbers)) else {
+            tally.differs(|| {
+                format!(
+                    "quick: {time:?} for a verdict, over {limit:?} for a directed one: {}",
+                    call.show()
+                )
+            });
+            return None;
+        };
+        // Not what is tried here, but nothing else asks for so many sets of a directed verdict.
+        if reply != plain || reply != Reply::answered(&[1], Vec::new()) {
+            tally.differs(|| {
+                format!(
+                    "quick: {}\n    verdict:          {plain}\n    directed: {reply}",
+                    call.show()
+                )
+            });
+        }
+        most = most.max(directed.as_secs_f64() / time.as_secs_f64());
+    }
+    Some(most)
+}
+
+/// Tables that hold, since no wire has more than one share, with masks in many wires each: drawn bits in all masks, in a
+/// few, a mask that stands in all wires, and a mask in each half of them.
+fn dense_tables(random: &mut Random) -> Vec<Table> {
+    let half = u64::MAX >> (MAX_MASKS / 2);
+    let mut masks = Vec::new();
+    masks.push((0..WIRES_OF_DENSE).map(|_| random.next()).collect::<Vec<u64>>());
+    masks.push(
+        (0..WIRES_OF_DENSE)
+            .map(|_| random.next() & random.next() & half)
+            .collect(),
+    );
+    masks.push((0..WIRES_OF_DENSE).map(|_| random.next() & 0xFF).collect());
+    masks.push((0..WIRES_OF_DENSE).map(|_| random.next() | 1).collect());
+    masks.push((0..WIRES_OF_DENSE).map(|_| random.next() & 0xFE | 1).collect());
+    masks.push(vec![1; WIRES_OF_DENSE]);
+    masks.push((0..WIRES_OF_DENSE).map(|wire| 1 << (wire % 2)).collect());
+    let table = |masks: &Vec<u64>| Table {
+        records: masks
+            .iter()
+            .map(|masks| Record {
+                masks: *masks,
+                ..record(random, MAX_SHARES, 0, 1)
+            })
+            .collect(),
+        shares: MAX_SHARES,
+        masks: MAX_MASKS,
+    };
+    masks.iter().map(table).collect()
+}
