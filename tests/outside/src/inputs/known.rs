@@ -1,7 +1,7 @@
 //! Tables of up to 512 wires whose first breaking set is known at every order by the way in which they are made, where
 //! nobody could look at every set.
 
-use super::searches::one_share;
+use super::searches::{moved, one_share};
 use super::tables::{ring, Table};
 use crate::model::breaking::{NI, SNI};
 use crate::model::records::{Record, MAX_MASKS, MAX_SHARES};
@@ -62,32 +62,29 @@ pub fn known(random: &mut Random, wires: usize) -> Known {
             false => one_share(random, shares),
         });
     }
-    // Where each wire ends up.
-    let mut order_of_wires: Vec<usize> = (0..wires).collect();
-    random.shuffle(&mut order_of_wires);
-    let mut at = vec![0; wires];
-    for (place, wire) in order_of_wires.iter().enumerate() {
-        at[*wire] = place as u16;
-    }
-    let mut next = 0;
-    for (ring, _) in &mut rings {
-        for copies in &mut ring.places {
-            for place in copies {
-                *place = at[next];
-                next += 1;
-            }
-        }
-    }
-    let rings: Vec<Ring> = rings.into_iter().map(|(ring, _)| ring).collect();
+    let mut wires_in_order: Vec<usize> = (0..wires).collect();
+    random.shuffle(&mut wires_in_order);
+    let mut rings: Vec<Ring> = rings.into_iter().map(|(ring, _)| ring).collect();
+    place(&mut rings, &wires_in_order);
     Known {
         first: [NI, SNI].map(|notion| first(&rings, notion, order)),
         table: Table {
-            records: order_of_wires.iter().map(|wire| records[*wire]).collect(),
+            records: wires_in_order.iter().map(|wire| records[*wire]).collect(),
             shares,
             masks: MAX_MASKS,
         },
         order,
     }
+}
+
+/// Tells the rings, whose wires came first and one after the other, where these are now.
+fn place(rings: &mut [Ring], wires_in_order: &[usize]) {
+    let mut places = vec![0; wires_in_order.len()];
+    for (place, wire) in wires_in_order.iter().enumerate() {
+        places[*wire] = place as u16;
+    }
+    let copies = rings.iter_mut().flat_map(|ring| &mut ring.places).flatten();
+    copies.zip(places).for_each(|(copy, place)| *copy = place);
 }
 
 /// A ring and its records, copies side by side. It takes its masks from the free ones.
@@ -103,13 +100,8 @@ fn any_ring(random: &mut Random, shares: usize, size: usize, free: &mut Vec<usiz
         .collect();
     let mut wires = ring(random, shares, size, seen);
     for (number, wire) in wires.iter_mut().enumerate() {
-        let old = (0..size).filter(|place| wire.masks >> place & 1 == 1);
-        let new = old.fold(0, |new, place| new | 1 << masks[place]);
-        *wire = Record {
-            masks: new,
-            outer: u8::from(number < outer),
-            ..*wire
-        };
+        *wire = moved(*wire, &masks);
+        wire.outer = u8::from(number < outer);
     }
     let copies: Vec<usize> = wires
         .iter()

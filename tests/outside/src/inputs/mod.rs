@@ -2,6 +2,7 @@
 
 pub mod arguments;
 pub mod calls;
+pub mod changes;
 pub mod damage;
 pub mod files;
 pub mod gadgets;

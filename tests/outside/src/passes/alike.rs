@@ -40,6 +40,7 @@ const LEAST_OF_KIND: u64 = 500;
 const LEAST_OF_REFUSAL: u64 = 100;
 const LEAST_OF_MODEL: u64 = 3_000;
 const FIRST_REFUSAL: u64 = 11;
+const LAST_REFUSAL: u64 = 16;
 
 /// How often everything came.
 #[derive(Default)]
@@ -83,7 +84,8 @@ fn compare_all(random: &mut Random, tally: &mut Tally, counts: &mut Counts, tabl
         let reply = compare(tally, &call, numbers);
         counts.orders[order] += 1;
         counts.kinds[kind][usize::from(reply.numbers[0] == Some(1))] += 1;
-        counts.answers[notion - 1][reply.written.len()] += 1;
+        // More than seven wires are a difference already.
+        counts.answers[notion - 1][reply.written.len().min(MAX_SIZE)] += 1;
         if few && turn % ONE_IN_OF_MODEL == 0 {
             counts.by_model += 1;
             ask_model(tally, &call, numbers);
@@ -94,7 +96,7 @@ fn compare_all(random: &mut Random, tally: &mut Tally, counts: &mut Counts, tabl
     }
     if turn % ONE_IN_WRONG == 0 {
         let status = wrong_call(random, tally, call, order);
-        if status >= FIRST_REFUSAL {
+        if (FIRST_REFUSAL..=LAST_REFUSAL).contains(&status) {
             counts.refusals[(status - FIRST_REFUSAL) as usize] += 1;
         }
     }

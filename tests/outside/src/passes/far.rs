@@ -58,8 +58,8 @@ pub fn run(random: &mut Random, tally: &mut Tally) {
     }
     let [ni, sni] = answers.map(|counts| counts.map(|count| count.to_string()).join(" "));
     tally.say(format!(
-        "far             {TABLES} tables of up to {MAX_WIRES} wires; too large for the other verdict, holds and broken by 1 to \
-         7 wires: NI {ni}, SNI {sni}; {by_both} answers by both"
+        "far             {TABLES} tables of up to {MAX_WIRES} wires; too large for the other verdict, holds and broken by \
+         1 to 7 wires: NI {ni}, SNI {sni}; {by_both} answers by both"
     ));
     if answers.concat().iter().any(|times| *times < LEAST) || by_both < LEAST_OF_BOTH {
         tally.differs(|| String::from("far: an answer came too rarely"));

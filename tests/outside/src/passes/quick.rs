@@ -21,9 +21,9 @@ use std::time::{Duration, Instant};
 /// For one verdict, on a slow machine too.
 const LIMIT: Duration = Duration::from_secs(20);
 
-/// Every text of the gadgets' folder, with the first breaking set for NI and for SNI, none where it holds. The answers
-/// for figures 8 and 9, the order 2 example and the scope's three texts are those of their sources; that the
-/// multiplication of Ishai, Sahai and Wagner is SNI at every order, and so NI, is long proved.
+/// Every text of the gadgets' folder, with the first breaking set for NI and for SNI, none where it holds. The scope has
+/// those of texts A, B and C. Source 002 says of figures 8 and 9 that they are 7-SNI, and of the multiplication of Ishai,
+/// Sahai and Wagner that it is SNI, with proofs at any order; that of the order 2 example is the gadgets' README's.
 const GADGETS: [(&str, [&[u16]; 2]); 13] = [
     ("figure-8", [&[], &[]]),
     ("figure-9-shares", [&[], &[]]),

@@ -8,7 +8,7 @@ use crate::inputs::tables::{circuit, gadget, loose, ringed, Table};
 use crate::inputs::HUGE;
 use crate::model;
 use crate::model::breaking::{inner, sum, NI, SNI};
-use crate::model::records::{parse, Record, MAX_SHARES};
+use crate::model::records::{parse, Record, MAX_SHARES, RECORD_BYTES};
 use crate::model::sets::count;
 use crate::random::Random;
 use crate::reply::Reply;
@@ -19,6 +19,11 @@ const MOST_SETS: u64 = 4_000;
 const GADGETS: usize = 100;
 const MOST_SETS_OF_GADGETS: u64 = 100_000;
 const LARGE_GADGETS: usize = 300;
+
+/// So often every choice of conditions that are not met is made, of those of the refusals from 11 to 16.
+const TURNS: usize = 30;
+const CONDITIONS: u32 = 6;
+const FIRST_REFUSAL: u32 = 11;
 
 const HOLDS: &str = "holds";
 const SIZES: [&str; 7] = ["broken by 1 wire", "by 2", "by 3", "by 4", "by 5", "by 6", "by 7"];
@@ -49,6 +54,73 @@ pub fn run(random: &mut Random, tally: &mut Tally) {
         let call = TableCall::new(random, &table);
         (1..=3).for_each(|function| ask_function(tally, &call, function));
     }
+    let calls: usize = (0..TURNS).map(|_| all_conditions(random, tally)).sum();
+    tally.say(format!(
+        "verdicts        {calls} calls that fail none to all of {CONDITIONS} conditions, the first told by both entries"
+    ));
+}
+
+/// How many calls are made: two for each choice of conditions, of 11 to 16, that are not met.
+fn all_conditions(random: &mut Random, tally: &mut Tally) -> usize {
+    for failed in 0..1 << CONDITIONS {
+        let (call, numbers) = call_that_fails(random, failed);
+        let [notion, order, set_length] = numbers;
+        for (entry, ask) in engine::VERDICTS {
+            let reply = ask(&call.table, [call.shares, call.masks, notion, order, set_length]);
+            let first = FIRST_REFUSAL + failed.trailing_zeros();
+            let right = match failed {
+                0 => reply.status == 0,
+                _ => reply == Reply::refused(u64::from(first)),
+            };
+            if !right {
+                let input = format!("notion {notion} order {order} set_length {set_length} {}", call.show());
+                tally.differs(|| {
+                    format!("{entry:?} {input}\n    refused {first}, or none if that is 17\n    engine: {reply}")
+                });
+            }
+        }
+    }
+    engine::VERDICTS.len() << CONDITIONS
+}
+
+/// A call, with its notion, order and length of the buffer, that fails just these conditions: bit 0 for 11 and so on.
+fn call_that_fails(random: &mut Random, failed: u32) -> (TableCall, [usize; 3]) {
+    let fails = |refusal: u32| failed >> (refusal - FIRST_REFUSAL) & 1 == 1;
+    let (shares, masks, wires) = (
+        random.between(3, MAX_SHARES),
+        random.between(0, 5),
+        random.between(1, 6),
+    );
+    let table = loose(random, shares, masks, wires);
+    let mut call = TableCall::new(random, &table);
+    let (wire, huge) = (RECORD_BYTES * random.below(wires), random.pick(&HUGE));
+    match (fails(11), random.chance(50)) {
+        (true, true) => call.shares = random.pick(&[0, 1, 9, huge]),
+        (true, false) => call.masks = random.pick(&[65, huge]),
+        (false, _) => {}
+    }
+    if fails(12) {
+        call.table.push(0);
+    }
+    match (fails(13), random.chance(50)) {
+        (true, true) => call.table[wire + 18] = random.pick(&[2, 3, 128, 255]),
+        (true, false) => call.table[wire + 8] |= 1 << random.between(masks, 7),
+        (false, _) => {}
+    }
+    let notion = match fails(14) {
+        true => random.pick(&[0, 3, huge]),
+        false => random.between(1, 2),
+    };
+    let order = match (fails(15), fails(16)) {
+        (true, true) => random.pick(&[shares, 9]),
+        (true, false) => random.pick(&[0, shares, 9]),
+        (false, _) => random.between(1, 2),
+    };
+    let set_length = match fails(16) {
+        true => random.below(order),
+        false => order + random.below(3),
+    };
+    (call, [notion, order, set_length])
 }
 
 /// A table of few wires.
