@@ -34,8 +34,8 @@ static void print_verdict(const struct gadget *g, const char *name, size_t notio
     uint16_t set[CALDUVREN_MAX_ORDER];
     uint64_t holds = 0, masked = 1; /* for a set that a verdict shows masked is 0, and of_a or of_b is above allowed */
     size_t size = 0, of_a = 0, of_b = 0, allowed = 0;
-    expect_answer(calduvren_verdict(g->table, g->table_length, g->shares, g->masks, notion, g->order,
-                                    set, CALDUVREN_MAX_ORDER, &holds, &size));
+    expect_answer(calduvren_directed_verdict(g->table, g->table_length, g->shares, g->masks, notion, g->order,
+                                             set, CALDUVREN_MAX_ORDER, &holds, &size));
     if (holds) {
         printf("%s holds\n", name);
         return;
