@@ -2,14 +2,17 @@
 """Writes the texts that the program `try_report` goes over, and works its output out from the scope, with no look at the crates.
 
 usage: try_report.py data crates/try_report/data     try_report.py answers > crates/try_report/stdout
-       try_report.py errors     try_report.py counts     try_report.py halves
+       try_report.py errors     try_report.py counts
 
 A text is read by try_reader.py. A set's records are added on the way through the revolving-door order, as numbers, and judged by the counts
-of try_verdict.py; the function is told from the sum of the outer records. `answers` goes over small texts again: the first breaking set and
-the operands that leak as try_verdict.py finds them, whether `halves` finds one, what a watcher of each set learns, also where he knows all of
-one operand, and the function by trying all values as try_table.py does; it tells on standard error how many. `errors` runs programs that err as those of the scope's "Errors that have been sold", each on a
-text of the data, and prints the lines in which the true report and the wrong one differ. `counts` tells how many texts there are of each
-answer, and how many sets are looked at. `halves` tells by a quicker search whether SNI holds for the gadgets but the largest.
+of try_verdict.py; the function is told from the sum of the outer records. Texts of more than three million sets, which are the larger gadgets,
+are judged by a directed search instead, which leaves out what no first breaking set can be (`Directed`).
+
+`answers` takes some 40 seconds. It goes over the other texts again by the directed search, which it tries on the tables of try_verdict.py too;
+and over small texts: the first breaking set and the operands that leak as try_verdict.py finds them, what a watcher of each set learns, also
+where he knows all of one operand, and the function by trying all values as try_table.py does. It tells on standard error how many. `errors` runs
+programs that err as those of the scope's "Errors that have been sold", each on a text of the data, and prints the lines in which the true report
+and the wrong one differ. `counts` tells how many texts there are of each answer, and how many sets are looked at.
 """
 import collections
 import itertools
@@ -29,8 +32,9 @@ GADGETS = Path(__file__).resolve().parent.parent / "gadgets"
 MASK_BITS = (2**64 - 1) << 64
 SUMMED = 18  # the bytes of a record that are added
 FUNCTIONS = {1: "product", 2: "sum", 3: "copy"}
+MOST_WALKED = 3000000  # of more sets within the order, not all are looked at here
 
-Text = collections.namedtuple("Text", "kind name bytes")  # the kind is `report`, or `function` where the verdicts would take too long
+Text = collections.namedtuple("Text", "name bytes")
 
 
 # Reports.
@@ -45,6 +49,11 @@ def walk(words, end, size, back=False):
     for last in reversed(places) if back else places:
         for chosen, total in walk(words, last, size - 1, not back):
             yield (*chosen, last), total ^ words[last]
+
+
+def place(chosen):
+    """What sorts sets of one size, their wires rising, into revolving-door order: the highest wire, then the next below, turned round each time."""
+    return [-wire if below % 2 else wire for below, wire in enumerate(reversed(chosen))]
 
 
 def words_of(records):
@@ -111,13 +120,52 @@ class Judge:
             found = self.first_breaking(records, notion, answer.order)
             yield name + " holds" if found is None else broken(name, *found)
 
-    def told(self, text):
-        """What the program prints after the text's name."""
-        lines = self.report(text.bytes)
-        if text.kind == "report" and not text.name.startswith("figure-9"):
-            return list(lines)
-        held = ["NI holds", "SNI holds"] if text.kind == "report" and breaking_by_halves(text.bytes) is None else []
-        return list(itertools.islice(lines, 2)) + held  # of figure 9 there are too many sets to walk over here: by halves
+
+class Directed(Judge):
+    """The same reports, for texts of too many sets to look at each.
+
+    A breaking set of least size can not be cut into two parts, neither empty, whose sums both have no mask: the sum of the whole depends on no
+    more shares than the two sums together, and the wires that pay add up, so one part would break, and it is smaller. So the sum of each part
+    has a mask left, and since the whole has none, some wire outside the part carries this mask. A set is put together by such wires alone."""
+
+    def first_breaking(self, records, notion, order):
+        words = words_of(records)
+        for size in self.sizes(order):
+            breaking = [found for found in self.without_masks(words, size) if self.breaks(records, *found, notion)]
+            if breaking:
+                chosen, total = min(breaking, key=lambda found: place(found[0]))
+                return chosen, self.leaking(records, chosen, total, notion)
+        return None
+
+    def without_masks(self, words, size):
+        """Sets of a size whose sum has no mask, each with its sum, once: all those that can not be cut."""
+        carriers = {mask: [w for w, word in enumerate(words) if word & mask] for mask in (1 << k for k in range(64, 128))}
+        rarest_first = sorted(carriers, key=lambda mask: len(carriers[mask]))
+        alike = collections.defaultdict(list)
+        for w, word in enumerate(words):
+            alike[word & MASK_BITS].append(w)
+        is_open, chosen, found = [True] * len(words), [], []
+
+        def grow(total, missing):
+            self.looked += 1
+            masks = total & MASK_BITS
+            if chosen and not masks:
+                return  # a part without a mask
+            if missing == 1:
+                found.extend((tuple(sorted([*chosen, w])), total ^ words[w]) for w in alike.get(masks, ()) if is_open[w])
+                return
+            following = carriers[next(mask for mask in rarest_first if mask & masks)] if chosen else range(len(words))
+            following = [w for w in following if is_open[w]]
+            for w in following:
+                is_open[w] = False  # below it and in what comes after: sets with this wire are found now
+                chosen.append(w)
+                grow(total ^ words[w], missing - 1)
+                chosen.pop()
+            for w in following:
+                is_open[w] = True
+
+        grow(0, size)
+        return found
 
 
 # Programs that err.
@@ -241,14 +289,12 @@ def written(order, masks, lines):
 def gadget_files():
     """The texts of the folder `gadgets`, which say what the figures do."""
     figure_9 = readings.gadget(readings.FIGURE_9)
-    expected = {"isw-%d" % order: written(order, *isw(order)) for order in range(1, 5)}
+    expected = {"isw-%d" % order: written(order, *isw(order)) for order in range(1, 8)}
     expected |= {"order-2-example": readings.ORDER_TWO, "figure-8": readings.gadget(readings.FIGURE_8), "figure-9": figure_9}
     expected["figure-9-shares"] = re.sub(rb"s([0-7])\1", rb"a\1", figure_9)
-    others = {"leak-1": readings.TEXT_B, "sum-1": readings.TEXT_C}  # the scope's, which are among its texts
-    others |= {"isw-%d" % order: written(order, *isw(order)) for order in range(5, 8)}  # of which a report takes too long here
-    assert {path.stem: path.read_bytes() for path in GADGETS.glob("*.txt")} == expected | others and expected["isw-1"] == readings.TEXT_A
-    for name, text in expected.items():
-        yield "function" if name == "figure-8" else "report", name, text
+    expected |= {"leak-1": readings.TEXT_B, "sum-1": readings.TEXT_C}  # the scope's
+    assert {path.stem: path.read_bytes() for path in GADGETS.glob("*.txt")} == expected and expected["isw-1"] == readings.TEXT_A
+    return expected.items()
 
 
 def scope_texts():
@@ -405,14 +451,24 @@ def drawn():
 
 def texts():
     """All texts, in the order in which the program goes over them."""
-    for kind, name, text in gadget_files():
-        yield Text(kind, name + ".txt", text)
     sold = ((name, text) for name, (_, _, text) in SOLD.items())
-    for name, text in itertools.chain(scope_texts(), limits(), refused(), sold, variety(), drawn()):
-        yield Text("report", name + ".txt", text)
+    for name, text in itertools.chain(gadget_files(), scope_texts(), limits(), refused(), sold, variety(), drawn()):
+        yield Text(name + ".txt", text)
 
 
-# Each small text a second time.
+def sets_within(answer):
+    return sum(comb(answer.wires, size) for size in range(1, answer.order + 1))
+
+
+def reports(walking, directed):
+    """Each text, with the lines that the program prints after its name."""
+    for text in texts():
+        answer = readings.read(text.bytes, readings.MOST_TABLE)
+        many = not isinstance(answer, readings.Refusal) and sets_within(answer) > MOST_WALKED
+        yield text, list((directed if many else walking).report(text.bytes))
+
+
+# Each text of few sets a second time.
 
 
 def wire_of(record):
@@ -431,50 +487,41 @@ class Again:
         if isinstance(answer, readings.Refusal):
             return
         records, wires = verdicts.records_of(answer.table), [wire_of(r) for r in verdicts.records_of(answer.table)]
+        if sets_within(answer) <= MOST_WALKED:
+            self.counts["reports by walking over all sets and by the directed search"] += 1
+            assert told == list(Directed().report(text.bytes))
         if 2 * answer.shares + len({k for w in wires for k in w.masks}) <= 16:
             self.counts["functions by trying"] += 1
             assert told[1] == "function " + next((n for f, n in FUNCTIONS.items() if tables.computes(wires, answer.shares, f)), "other")
-        if text.kind == "report" and sum(comb(answer.wires, size) for size in range(1, answer.order + 1)) <= 20000:
-            self.counts["reports by listing all sets and by halves"] += 1
+        if sets_within(answer) <= 20000:
+            self.counts["reports by listing all sets"] += 1
             for notion, name, line in (NI, "NI", told[2]), (SNI, "SNI", told[3]):
                 found = verdicts.first_breaking(records, notion, answer.order)
                 assert line == (name + " holds" if found is None else broken(name, found, verdicts.leaking_by(records, found, notion)))
-            assert (breaking_by_halves(text.bytes) is None) == (told[3] == "SNI holds")
         if answer.shares <= 3 and answer.wires <= 14 and answer.masks <= 4:
             self.counts["tables by watching"] += 1
             self.watched.table(answer.shares, answer.masks, wires, records)
+
+    def tables(self):
+        """The directed search on the tables of try_verdict.py, which break by sets of every size."""
+        for shares, _, _, table in verdicts.cases():
+            records = verdicts.records_of(table)
+            for notion, order in itertools.product((NI, SNI), range(1, shares)):
+                self.counts["verdicts on other tables by listing all sets and by the directed search"] += 1
+                first = verdicts.first_breaking(records, notion, order)
+                found = first and (first, verdicts.leaking_by(records, first, notion))
+                assert Directed().first_breaking(records, notion, order) == found
 
     def told(self):
         for way, count in self.counts.items():
             print(count, way, "agree", file=sys.stderr)
 
 
-def breaking_by_halves(text):
-    """Some set within the order that breaks SNI, or None; then none breaks NI either, which allows no less. A set whose sum has no mask
-    is made of two halves with the same masks, so each small set is paired with the larger ones that have its masks."""
-    answer = readings.read(text, readings.MOST_TABLE)
-    records = verdicts.records_of(answer.table)
-    words, small = words_of(records), collections.defaultdict(list)
-    sets = lambda most: itertools.chain(*(walk(words, len(words), size) for size in range(most + 1)))
-    for chosen, total in sets(answer.order // 2):
-        small[total & MASK_BITS].append((chosen, total))
-    for chosen, total in sets(answer.order - answer.order // 2):
-        for others, rest in small[total & MASK_BITS]:
-            if not set(chosen) & set(others) and Judge().breaks(records, chosen + others, total ^ rest, SNI):
-                return sorted(chosen + others)
-    return None
-
-
-def print_halves():
-    for _, name, text in gadget_files():
-        if name != "figure-8":
-            print(name, "SNI", breaking_by_halves(text) or "holds")
-
-
 def examples():
     """What the scope itself says of reports."""
     for n, k in itertools.product(range(8), range(5)):
         assert [chosen for chosen, _ in walk([0] * n, n, k)] == verdicts.revolving(n, k)
+        assert sorted(itertools.combinations(range(n), k), key=place) == verdicts.revolving(n, k)
     report = lambda text: list(Judge().report(text))
     assert report(readings.TEXT_A) == ["order 1 shares 2 masks 1 wires 9", "function product", "NI holds", "SNI holds"]
     assert report(readings.TEXT_B)[1:] == ["function product", "NI broken 6 by both", "SNI broken 6 by both"]
@@ -488,15 +535,15 @@ def write_data(folder):
     for text in every:
         assert re.fullmatch("[a-z0-9-]+[.]txt", text.name) and len(text.name) <= 60
         (folder / text.name).write_bytes(text.bytes)
-    (folder / "index").write_text("".join("%s %s\n" % (text.kind, text.name) for text in every))
+    (folder / "index").write_text("".join(text.name + "\n" for text in every))
 
 
 def print_answers():
     again = Again()
-    for text in texts():
-        told = Judge().told(text)
+    for text, told in reports(Judge(), Directed()):
         again.text(text, told)
         print(text.name, *told, sep="\n")
+    again.tables()
     again.told()
 
 
@@ -515,12 +562,13 @@ def without_numbers(line):
 
 def print_counts():
     """How many texts there are of each answer, and how many sets are looked at."""
-    judge, kinds, every = Judge(), collections.Counter(), list(texts())
-    for text in every:
-        kinds.update(without_numbers(line) for line in judge.told(text) if not line.startswith("order"))
+    walking, directed, kinds = Judge(), Directed(), collections.Counter()
+    every = list(reports(walking, directed))
+    for _, told in every:
+        kinds.update(without_numbers(line) for line in told if not line.startswith("order"))
     for kind in sorted(kinds):
         print(kinds[kind], kind)
-    print(len(every), "texts,", judge.looked, "sets looked at")
+    print(len(every), "texts,", walking.looked, "sets looked at,", directed.looked, "parts of sets in the directed search")
 
 
 def main():
@@ -533,8 +581,6 @@ def main():
         print_errors()
     elif sys.argv[1:] == ["counts"]:
         print_counts()
-    elif sys.argv[1:] == ["halves"]:
-        print_halves()
     else:
         sys.exit(__doc__)
 

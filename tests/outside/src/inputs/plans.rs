@@ -79,8 +79,8 @@ fn of_report(random: &mut Random) -> Vec<Case> {
         call: case.call,
         text: match case.expected {
             Expected::Reason("standard input", _) => None,
-            Expected::Report(text) | Expected::Late(text, _) | Expected::Long(text) => Some(text),
-            Expected::Reason(_, text) => Some(text),
+            Expected::Report(text) | Expected::Late(text, _) | Expected::Told(text, _) => Some(text),
+            Expected::Long(text) | Expected::Reason(_, text) => Some(text),
         },
     };
     runs::all(random).into_iter().map(case).collect()

@@ -37,6 +37,8 @@ pub enum Expected {
     Report(Vec<u8>),
     /// The report on this text, whose first breaking set has so many wires under either notion, and its notes.
     Late(Vec<u8>, usize),
+    /// This report on this text, of more sets than the model can look at, and its notes.
+    Told(Vec<u8>, String),
     /// Nothing, and no end either: a verdict on this text that looks at every set, `LEAST_OF_LONG` or more, takes far
     /// longer than the program is given. One that ends has not looked. That it is long is said, and so is what the
     /// function is not.
@@ -102,21 +104,23 @@ fn long() -> Vec<Case> {
     texts.map(case).into()
 }
 
-/// Whether a verdict on a text that can be read would not end while the program runs, where it holds.
+/// Whether a verdict that looks at every set of a text that can be read would not end while the program runs, where it
+/// holds.
 fn is_long(text: &[u8]) -> bool {
     Size::of(text).is_ok_and(|size| in_all(&size) >= LEAST_OF_LONG)
 }
 
-/// Every text of the list, as a file. Of those that are not for a report there, some have few enough sets for one here.
+/// Every text of the list, as a file. The model looks at every set; where these are too many, the report is that which
+/// was worked out for the list.
 fn of_files() -> Vec<Case> {
-    let case = |(kind, path): (String, PathBuf)| {
+    let case = |path: PathBuf| {
         let text = files::read(&path);
         Case {
-            call: Call::on(Input::File(path)),
-            expected: match kind != "report" && is_long(&text) {
-                true => Expected::Long(text),
+            expected: match is_long(&text) {
+                true => Expected::Told(text, files::report_on(&path)),
                 false => Expected::Report(text),
             },
+            call: Call::on(Input::File(path)),
         }
     };
     files::listed().into_iter().map(case).collect()

@@ -27,10 +27,11 @@ const LIMIT_OF_LONG: Duration = Duration::from_secs(1);
 /// So many bytes of what a child printed or said are shown where it is wrong.
 const MOST_SHOWN: usize = 600;
 
-const KINDS: [&str; 12] = [
+const KINDS: [&str; 13] = [
     "holds",
     "broken",
     "broken late",
+    "told",
     "refused",
     "long",
     "long, two notes",
@@ -66,7 +67,7 @@ pub fn run(random: &mut Random, tally: &mut Tally) {
         if let Err(why) = judge(case, &model, &outcome) {
             tally.differs(|| format!("{PROGRAM}: {why}\n    {}", case.show()));
         }
-        if let Expected::Report(text) | Expected::Late(text, _) = &case.expected {
+        if let Expected::Report(text) | Expected::Late(text, _) | Expected::Told(text, _) = &case.expected {
             compare_with_faults(tally, case, text, &model.report, &outcome);
             if case.call.error == Error::Pipe {
                 noted::count(tally, &model.notes);
@@ -113,6 +114,7 @@ impl Case {
     fn model(&self) -> Model {
         let (text, report) = match &self.expected {
             Expected::Report(text) | Expected::Late(text, _) => (text, report(text, u64::MAX).unwrap_or_default()),
+            Expected::Told(text, report) => (text, report.clone()),
             Expected::Long(text) | Expected::Reason(_, text) => (text, String::new()),
         };
         let notes = RIGHT.notes(text, &report);
@@ -151,6 +153,7 @@ fn kind(case: &Case, Model { report, notes }: &Model) -> &'static str {
         (Expected::Long(_), _) if two_before => "long, two notes",
         (Expected::Long(_), _) => "long",
         (Expected::Late(..), _) => "broken late",
+        (Expected::Told(..), _) => "told",
         (Expected::Report(_), _) if report.starts_with("refused") => "refused",
         (Expected::Report(_), _) if report.contains("broken") => "broken",
         (Expected::Report(_), _) => "holds",
@@ -192,7 +195,7 @@ fn judge(case: &Case, model: &Model, outcome: &Outcome) -> Result<(), String> {
     let [printed, notes] = wanted(case.call.error, &model.report, &model.notes);
     let before = model.notes.before.as_slice();
     let (right, wanted) = match &case.expected {
-        Expected::Report(_) | Expected::Late(..) => (
+        Expected::Report(_) | Expected::Late(..) | Expected::Told(..) => (
             ended && outcome.printed == printed && said == notes,
             format!("{}, {}", show_some(&printed), show_some(&notes)),
         ),

@@ -67,8 +67,7 @@ pub fn run(random: &mut Random, tally: &mut Tally) {
 
 /// The gadgets, and the texts that the programs get.
 fn known() -> Vec<Vec<u8>> {
-    let listed = files::listed().into_iter().map(|(_, path)| path);
-    let paths = files::gadgets().into_iter().chain(listed);
+    let paths = files::gadgets().into_iter().chain(files::listed());
     let texts = paths.map(|path| files::read(&path)).collect();
     [texts, noted::texts(), sums::texts(), words::texts()].concat()
 }
