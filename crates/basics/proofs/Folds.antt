@@ -12,18 +12,20 @@
 --     up-to-length                         there are n numbers below n
 --     keep-append                          what is kept of a list in two parts
 --     count-all                            a test that always passes counts the elements
+--     count-either                         what passes one of two tests or the other is counted by both
 --     every-place                          what holds of every element holds at a place
 --     some-at, some-where, never, none-below, none-more, every-at, every-below     what holds of some number below n, of none, of every one
 use Prim.Native.Nat.{ℕ, zero, suc, _+_, _≤_, _<_, suc-le-suc, zero-le}
 use native.Mathlib.Nat.{not-suc-le-zero, le-of-suc-le-suc, zero-lt-suc, zero-add, suc-add}
 use native.Mathlib.Omega.{arith}
 use mathlib.Core.Path.{_≡_, refl, sym, _∙_, ap, ap₂, subst}
+use mathlib.Core.Logic.{_⊎_, inl, inr}
 use mathlib.Core.Bool.{Bool, true, false, cond, _&&_, _||_, true≢false, false≢true, or-assoc}
 use mathlib.Core.List.{List, [], _∷_, _++_, map, map-append}
 use lib.ListN.{length, take, getD}
 use lib.Seq.{take-suc}
 use lib.Dec.{eqb, eqb·zero-suc, eqb·suc-zero, eqb·suc-suc}
-use Rattle.basics.specs.Folds.{fold, some, every, count, keep, upTo}
+use Rattle.basics.specs.Folds.{fold, some, every, count, oneIf, keep, upTo}
 use Rattle.basics.proofs.Tests.{and-left, and-right, and-both, or-left, or-right}
 
 module _ {A B : Type 0} (op : B → B → B) (e : B) where
@@ -173,6 +175,21 @@ module _ {A : Type 0} where
   every-place f [] i d e h = absurd (not-suc-le-zero h)
   every-place f (x ∷ l) zero d e h = and-left (f x) (every f l) e
   every-place f (x ∷ l) (suc i) d e h = every-place f l i d (and-right (f x) (every f l) e) (le-of-suc-le-suc h)
+
+pub count-either : {A : Type 0} (f g h : A → Bool) (l : List A) → ((x : A) → f x ≡ true → (g x ≡ true) ⊎ (h x ≡ true)) → count f l ≤ count g l + count h l
+count-either f g h [] e = omega arith
+count-either f g h (x ∷ l) e = go (f x) (g x) (h x) (e x) (count-either f g h l e)
+  where
+    go : (a b c : Bool) → (a ≡ true → (b ≡ true) ⊎ (c ≡ true)) → count f l ≤ count g l + count h l
+        → oneIf a + count f l ≤ oneIf b + count g l + (oneIf c + count h l)
+    go true true c k ih = omega arith
+    go true false true k ih = omega arith
+    go true false false k ih = let z = k refl in absurd (neither z)
+      where
+        neither : (false ≡ true) ⊎ (false ≡ true) → ⊥
+        neither (inl q) = true≢false (sym q)
+        neither (inr q) = true≢false (sym q)
+    go false b c k ih = omega arith
 
 pub some-at : (n k : ℕ) (f : ℕ → Bool) → k < n → f k ≡ true → some f (upTo n) ≡ true
 unfolding upTo

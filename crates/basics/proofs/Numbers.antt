@@ -1,8 +1,10 @@
--- Induction over numbers.
+-- Induction over numbers, and whether two are alike.
 --     from-on     what holds at a number, and goes on from each number to the next as long as that is not past an end, holds up to the end
 --     rises       numbers that do not fall from one to the next do not fall
+--     alike       two numbers are the same or not
 use Prim.Native.Nat.{ℕ, zero, suc, _+_, _≤_, _<_}
 use native.Mathlib.Nat.{le-refl, eq-or-lt-of-le, le-of-suc-le-suc}
+use native.Mathlib.Decide.{decLt}
 use native.Mathlib.Numerals.{add-one}
 use native.Mathlib.Omega.{arith}
 use mathlib.Core.Path.{_≡_, ap, subst}
@@ -18,3 +20,11 @@ from-on P from end first next (suc i) low h = go (eq-or-lt-of-le low) (from-on P
 
 pub rises : (f : ℕ → ℕ) → ((i : ℕ) → f i ≤ f (suc i)) → (a b : ℕ) → a ≤ b → f a ≤ f b
 rises f up a b h = from-on (λ (i : ℕ). f a ≤ f i) a b (le-refl (f a)) (λ i low less before. omega (arith, before, up i, ap f (add-one i))) b h (le-refl b)
+
+pub alike : (m n : ℕ) → Dec (m ≡ n)
+alike m n = go (decLt m n) (decLt n m)
+  where
+    go : Dec (m < n) → Dec (n < m) → Dec (m ≡ n)
+    go (yes p) d = no (λ e. omega (arith, p, e))
+    go (no p) (yes q) = no (λ e. omega (arith, q, e))
+    go (no p) (no q) = yes (omega (arith, p, q))

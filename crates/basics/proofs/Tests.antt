@@ -2,7 +2,7 @@
 --     and-left, and-right, and-both            a conjunction and its parts
 --     or-left, or-right, or-cases, or-none     a disjunction and its parts
 --     bool-ext                                 two tests that pass together are equal
---     xor-false, false-xor, xor-true, xor-comm, xor-assoc, xor-self, xor-same     bits added without carry
+--     xor-false, false-xor, xor-true, xor-comm, xor-assoc, xor-self, xor-same, xor-cases     bits added without carry
 --     xor-two                                  two sums added part by part
 --     and-xor, xor-and                         the product of a sum
 --     and-cond                                 a conjunction as a choice
@@ -75,6 +75,10 @@ xor-assoc false true true = refl
 xor-assoc false true false = refl
 xor-assoc false false true = refl
 xor-assoc false false false = refl
+
+pub xor-cases : (a b : Bool) → xor a b ≡ true → (a ≡ true) ⊎ (b ≡ true)
+xor-cases true b e = inl refl
+xor-cases false b e = inr (sym (false-xor b) ∙ e)
 
 pub xor-self : (a : Bool) → xor a a ≡ false
 unfolding xor

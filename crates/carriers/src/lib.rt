@@ -23,7 +23,7 @@ pub fn has_mask(sum: Sum, mask: usize) -> bool
 }
 
 // The highest carrier of a mask with one wire more: that wire where it carries the mask, else what it was before.
-fn with_wire(table: &[u8], wire: usize, mask: usize, before: u16) -> u16
+fn highest_with(table: &[u8], wire: usize, mask: usize, before: u16) -> u16
     requires { ⌜ (wire < wireCount (now table)) × (wire < maxWires) × (mask < maxMasks) ⌝ }
     ensures { λ r. ⌜ r ≡ cond (carries (now (table .entry)) mask wire) (suc wire) before ⌝ }
 {
@@ -42,7 +42,7 @@ pub fn carriers(table: &[u8]) -> [u16; CARRIERS]
     let mut highest = [0u16; CARRIERS];
     let mut place = 0;
     while place < MAX_MASKS * wires {
-        highest[place + MAX_MASKS] = with_wire(
+        highest[place + MAX_MASKS] = highest_with(
             table,
             place / MAX_MASKS,
             place % MAX_MASKS,

@@ -1,22 +1,22 @@
 -- What is promised where a descent goes no deeper.
 --     chosen-broken     the chosen wires break exactly when the sum does
+--     others, others-left     the wires of a set that fits other than the chosen ones, and how many they are
 --     one-set           where no wire is to come the chosen wires are the only set that fits
 --     settled           the chosen wires are all, and their rank counts where they break
---     vain              they are all, and a mask is left
+--     masked-end          they are all, and a mask is left
 --     dropped           there are more to come, and no mask is left: a part of a breaking set of least size has one
-use Prim.Native.Nat.{ℕ, suc, _+_, _≤_, _<_}
+use Prim.Native.Nat.{ℕ, suc, _≤_, _<_}
 use native.Mathlib.Nat.{le-refl, lt-irrefl}
 use native.Mathlib.Omega.{arith}
 use mathlib.Core.Path.{_≡_, refl, sym, _∙_, ap, ap₂, subst}
-use mathlib.Core.Logic.{_⊎_, inl, inr}
 use mathlib.Core.Bool.{Bool, true, false, not, _&&_, _||_, true≢false}
-use mathlib.Core.List.{List, map}
+use mathlib.Core.List.{List}
 use lib.ListN.{length}
 use Rattle.limits.specs.Limits.{maxShares, maxMasks}
 use Rattle.counts.specs.Counts.{binom}
 use Rattle.revolving.specs.Order.{setAt, rankOf}
 use Rattle.wires.specs.declared.Notion.{Notion}
-use Rattle.wires.specs.Wires.{Terms, total, swap, masked, allowed, exceeds, sumBreaks, breaks}
+use Rattle.wires.specs.Wires.{swap, masked, exceeds, sumBreaks, breaks}
 use Rattle.records.specs.declared.sums.Sum.{Sum}
 use Rattle.records.specs.Layout.{wireAt, wireCount, termsOf}
 use Rattle.breaking.specs.Breaking.{isBreaking}
@@ -87,8 +87,8 @@ module _ (notion : Notion) (table : List ℕ) (size top : ℕ) (marks : List ℕ
     covers = λ s e broken fits. absurd (nothing s e broken fits);
   }
 
-  pub vain : (before : ℕ) → left ≡ 0 → masked maxMasks (termsOf sum) ≡ true → Looked test n size top marks before before
-  vain before none still = kept before (λ s e broken fits.
+  pub masked-end : (before : ℕ) → left ≡ 0 → masked maxMasks (termsOf sum) ≡ true → Looked test n size top marks before before
+  masked-end before none still = kept before (λ s e broken fits.
       true≢false (sym broken ∙ ap test (one-set s fits none e) ∙ sym chosen-broken ∙ ap (λ (b : Bool). not b && either) still))
     where
       either : Bool

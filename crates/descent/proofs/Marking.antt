@@ -1,12 +1,12 @@
--- Marks after a change.
---     alike                          two wires are the same or not
---     chosen-here, chosen-other, closed-here ..     the mark that is set, and every other one
---     not-both, not-closed           a wire has one mark
+-- Marks as the code reads them, and after a change.
+--     not-both, not-open, closed-not-open, closed-not-chosen      a wire has one mark
+--     read-chosen, read-not-chosen, read-open, read-not-open, read-closed      what the code reads
+--     chosen-other, open-other, closed-other                      every mark but the one that is set
+--     now-chosen, now-closed, now-open                            the one that is set
+--     fits-changed                   what a set must have of a wire, so that it fits after the wire's mark is changed
 --     fits-with, fits-without        a set that fits and has an open wire fits with that wire chosen; one that has it not fits with the wire closed
-use Prim.Native.Nat.{ℕ, _≤_, _<_}
-use native.Mathlib.Decide.{decLt}
-use native.Mathlib.Omega.{arith}
-use mathlib.Core.Path.{_≡_, refl, sym, _∙_, ap, subst}
+use Prim.Native.Nat.{ℕ, _<_}
+use mathlib.Core.Path.{_≡_, sym, _∙_, ap}
 use mathlib.Core.Logic.{_⊎_, inl, inr}
 use mathlib.Core.Bool.{Bool, true, false, true≢false}
 use mathlib.Core.List.{List}
@@ -14,16 +14,8 @@ use borrow.Author.Tests.{eqb-true, eq-eqb, ne-eqb}
 use lib.Dec.{eqb}
 use lib.ListN.{length, getD, set}
 use lib.Seq.{getD-set-same, getD-set-other}
+use Rattle.basics.proofs.Numbers.{alike}
 use Rattle.descent.specs.Marks.{isOpen, isClosed, isChosen, Fits}
-
--- two wires are the same or not
-pub alike : (w x : ℕ) → Dec (w ≡ x)
-alike w x = go (decLt w x) (decLt x w)
-  where
-    go : Dec (w < x) → Dec (x < w) → Dec (w ≡ x)
-    go (yes p) d = no (λ e. omega (arith, p, e))
-    go (no p) (yes q) = no (λ e. omega (arith, q, e))
-    go (no p) (no q) = yes (omega (arith, p, q))
 
 module _ (marks : List ℕ) (w : ℕ) where
   pub not-both : isOpen marks w ≡ true → isChosen marks w ≡ false
@@ -97,34 +89,35 @@ module _ (marks : List ℕ) (x : ℕ) (h : x < length marks) where
   unfolding isOpen
   now-open = ap (λ (m : ℕ). eqb m 0) (here marks x 0 h)
 
-  module _ (n : ℕ) (s : ℕ → Bool) (fits : Fits marks n s) (still : isOpen marks x ≡ true) where
-    pub fits-with : s x ≡ true → Fits (set marks x 2) n s
-    fits-with e = record { has = λ w b c. has w (alike w x) b c; only = λ w b c. only w (alike w x) b c }
+-- one mark is changed, and of its wire the set has what it must
+fits-changed : (marks : List ℕ) (x mark n : ℕ) (s : ℕ → Bool) → Fits marks n s → (isChosen (set marks x mark) x ≡ true → s x ≡ true)
+    → (s x ≡ true → (isChosen (set marks x mark) x ≡ true) ⊎ (isOpen (set marks x mark) x ≡ true)) → Fits (set marks x mark) n s
+fits-changed marks x mark n s fits has-here only-here = record { has = λ w b c. has w (alike w x) b c; only = λ w b c. only w (alike w x) b c }
+  where
+    after : List ℕ
+    after = set marks x mark
+
+    has : (w : ℕ) → Dec (w ≡ x) → w < n → isChosen after w ≡ true → s w ≡ true
+    has w (yes p) b c = ap s p ∙ has-here (ap (isChosen after) (sym p) ∙ c)
+    has w (no p) b c = fits .has w b (sym (chosen-other marks x mark w p) ∙ c)
+
+    only : (w : ℕ) → Dec (w ≡ x) → w < n → s w ≡ true → (isChosen after w ≡ true) ⊎ (isOpen after w ≡ true)
+    only w (yes p) b c = move (only-here (ap s (sym p) ∙ c))
       where
-        has : (w : ℕ) → Dec (w ≡ x) → w < n → isChosen (set marks x 2) w ≡ true → s w ≡ true
-        has w (yes p) b c = ap s p ∙ e
-        has w (no p) b c = fits .has w b (sym (chosen-other marks x 2 w p) ∙ c)
-
-        only : (w : ℕ) → Dec (w ≡ x) → w < n → s w ≡ true → (isChosen (set marks x 2) w ≡ true) ⊎ (isOpen (set marks x 2) w ≡ true)
-        only w (yes p) b c = inl (ap (isChosen (set marks x 2)) p ∙ now-chosen)
-        only w (no p) b c = move (fits .only w b c)
-          where
-            move : (isChosen marks w ≡ true) ⊎ (isOpen marks w ≡ true) → (isChosen (set marks x 2) w ≡ true) ⊎ (isOpen (set marks x 2) w ≡ true)
-            move (inl q) = inl (chosen-other marks x 2 w p ∙ q)
-            move (inr q) = inr (open-other marks x 2 w p ∙ q)
-
-    pub fits-without : s x ≡ false → Fits (set marks x 1) n s
-    fits-without e = record { has = λ w b c. has w (alike w x) b c; only = λ w b c. only w (alike w x) b c }
+        move : (isChosen after x ≡ true) ⊎ (isOpen after x ≡ true) → (isChosen after w ≡ true) ⊎ (isOpen after w ≡ true)
+        move (inl q) = inl (ap (isChosen after) p ∙ q)
+        move (inr q) = inr (ap (isOpen after) p ∙ q)
+    only w (no p) b c = move (fits .only w b c)
       where
-        has : (w : ℕ) → Dec (w ≡ x) → w < n → isChosen (set marks x 1) w ≡ true → s w ≡ true
-        has w (yes p) b c =
-            absurd (true≢false (sym c ∙ ap (isChosen (set marks x 1)) p ∙ closed-not-chosen (set marks x 1) x now-closed))
-        has w (no p) b c = fits .has w b (sym (chosen-other marks x 1 w p) ∙ c)
+        move : (isChosen marks w ≡ true) ⊎ (isOpen marks w ≡ true) → (isChosen after w ≡ true) ⊎ (isOpen after w ≡ true)
+        move (inl q) = inl (chosen-other marks x mark w p ∙ q)
+        move (inr q) = inr (open-other marks x mark w p ∙ q)
 
-        only : (w : ℕ) → Dec (w ≡ x) → w < n → s w ≡ true → (isChosen (set marks x 1) w ≡ true) ⊎ (isOpen (set marks x 1) w ≡ true)
-        only w (yes p) b c = absurd (true≢false (sym c ∙ ap s p ∙ e))
-        only w (no p) b c = move (fits .only w b c)
-          where
-            move : (isChosen marks w ≡ true) ⊎ (isOpen marks w ≡ true) → (isChosen (set marks x 1) w ≡ true) ⊎ (isOpen (set marks x 1) w ≡ true)
-            move (inl q) = inl (chosen-other marks x 1 w p ∙ q)
-            move (inr q) = inr (open-other marks x 1 w p ∙ q)
+module _ (marks : List ℕ) (x : ℕ) (h : x < length marks) (n : ℕ) (s : ℕ → Bool) (fits : Fits marks n s) where
+  pub fits-with : s x ≡ true → Fits (set marks x 2) n s
+  fits-with e = fits-changed marks x 2 n s fits (λ c. e) (λ c. inl (now-chosen marks x h))
+
+  pub fits-without : s x ≡ false → Fits (set marks x 1) n s
+  fits-without e =
+      fits-changed marks x 1 n s fits (λ c. absurd (true≢false (sym c ∙ closed-not-chosen (set marks x 1) x (now-closed marks x h))))
+      (λ c. absurd (true≢false (sym c ∙ e)))

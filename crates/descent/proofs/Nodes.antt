@@ -1,25 +1,26 @@
 -- The node of a child, and of what is left of a node.
+--     chosen-parted   the chosen wires with one more are these and that one
 --     node-chosen     one more wire is chosen
 --     node-closed     one wire is closed
 use Prim.Native.Nat.{ℕ, _+_, _-_, _<_}
 use native.Mathlib.Omega.{arith}
 use mathlib.Core.Path.{_≡_, refl, sym, _∙_, ap, ap₂}
-use mathlib.Core.Bool.{Bool, true, false, true≢false}
+use mathlib.Core.Bool.{Bool, true, false}
 use mathlib.Core.List.{List, map}
 use borrow.Author.Tests.{eq-eqb, ne-eqb}
 use lib.Dec.{eqb}
 use lib.ListN.{length, set, length-set}
-use Rattle.limits.specs.Limits.{maxWires}
 use Rattle.basics.specs.Folds.{oneIf}
+use Rattle.basics.proofs.Numbers.{alike}
 use Rattle.wires.specs.declared.Notion.{Notion}
-use Rattle.wires.specs.Wires.{Terms, plus, total, pays, allowed}
+use Rattle.wires.specs.Wires.{plus, total, pays, allowed}
 use Rattle.records.specs.declared.sums.Sum.{Sum}
 use Rattle.records.specs.Layout.{wireAt, wireCount, termsOf}
-use Rattle.parts.specs.Parts.{members, Parted}
+use Rattle.parts.specs.Parts.{Parted}
 use Rattle.parts.proofs.Members.{keep-below}
 use Rattle.parts.proofs.Sums.{sum-parted, paid-parted, length-parted, sum-one, paid-one, length-one}
-use Rattle.descent.specs.Marks.{isOpen, isClosed, isChosen, Node}
-use Rattle.descent.proofs.Marking.{alike, not-both, closed-not-chosen, chosen-other, closed-other, now-chosen, now-closed}
+use Rattle.descent.specs.Marks.{isOpen, isChosen, Node}
+use Rattle.descent.proofs.Marking.{not-both, closed-not-chosen, chosen-other, closed-other, now-chosen, now-closed}
 
 -- the chosen wires, with an open one more
 pub chosen-parted : (n : ℕ) (marks : List ℕ) (x : ℕ) → x < length marks → isOpen marks x ≡ true

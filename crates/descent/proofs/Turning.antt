@@ -6,19 +6,20 @@
 --     try-shut      a wire that is not open
 --     try-open      an open wire, after the descent with it
 --     try-last      after the last turn
-use Prim.Native.Nat.{ℕ, suc, _+_, _-_, _≤_, _<_, zero-le}
+use Prim.Native.Nat.{ℕ, suc, _≤_, _<_, zero-le}
 use native.Mathlib.Nat.{le-refl, lt-irrefl}
 use native.Mathlib.Decide.{decLt}
 use native.Mathlib.Omega.{arith}
 use mathlib.Core.Path.{_≡_, refl, sym, _∙_, ap, subst}
 use mathlib.Core.Logic.{_⊎_, inl, inr}
-use mathlib.Core.Bool.{Bool, true, false, not, _&&_, true≢false}
+use mathlib.Core.Bool.{Bool, true, false, not, true≢false}
 use mathlib.Core.List.{List, map}
 use lib.ListN.{length, set}
 use Rattle.limits.specs.Limits.{maxShares, maxMasks}
 use Rattle.basics.proofs.Tests.{and-left, and-right}
 use Rattle.counts.specs.Counts.{binom}
 use Rattle.revolving.specs.Order.{setAt, rankOf}
+use Rattle.basics.proofs.Numbers.{alike}
 use Rattle.wires.specs.declared.Notion.{Notion}
 use Rattle.wires.specs.Wires.{Terms}
 use Rattle.wires.proofs.Breaks.{breaks-exactly}
@@ -28,8 +29,8 @@ use Rattle.breaking.specs.Breaking.{isBreaking}
 use Rattle.parts.specs.Parts.{members}
 use Rattle.parts.proofs.Members.{rest}
 use Rattle.parts.proofs.Cutting.{carrier}
-use Rattle.descent.specs.Marks.{isOpen, isClosed, isChosen, Fits, Node, Looked}
-use Rattle.descent.proofs.Marking.{alike, not-open, closed-not-open, open-other, now-closed, fits-with, fits-without}
+use Rattle.descent.specs.Marks.{isOpen, isChosen, Fits, Node, Looked}
+use Rattle.descent.proofs.Marking.{not-open, closed-not-open, open-other, now-closed, fits-with, fits-without}
 use Rattle.descent.proofs.Ending.{others}
 
 pub record Trying (test : List ℕ → Bool) (n size top : ℕ) (carry : ℕ → Bool) (first : List ℕ) (before : ℕ) (marks : List ℕ) (least limit : ℕ) : Type 0 where
@@ -112,8 +113,8 @@ module _ (notion : Notion) (table : List ℕ) (size top : ℕ) (carry : ℕ → 
         one : (s : ℕ → Bool) → length (members n s) ≡ size → test (members n s) ≡ true → (least ≤ rankOf n (members n s)) ⊎ Fits marks n s
             → (b : Bool) → s wire ≡ b → (lower ≤ rankOf n (members n s)) ⊎ Fits (set marks wire 1) n s
         one s e broken (inl p) b q = inl (omega (arith, p, looked .most))
-        one s e broken (inr p) true q = inl (looked .covers s e broken (fits-with marks wire fits n s p up q))
-        one s e broken (inr p) false q = inr (fits-without marks wire fits n s p up q)
+        one s e broken (inr p) true q = inl (looked .covers s e broken (fits-with marks wire fits n s p q))
+        one s e broken (inr p) false q = inr (fits-without marks wire fits n s p q)
 
   pub try-last : (marks : List ℕ) (sum : Sum) (paid left least limit mask : ℕ) → Node notion table size top marks sum paid left
       → Trying test n size top carry first before marks least limit → limit ≡ 0 → mask < maxMasks → termsOf sum .mask mask ≡ true

@@ -2,13 +2,13 @@
 --     few-wires       the table has no more wires than tables may have
 --     between         the next carrier, by the list of carriers
 --     Descending      what holds before a turn of the loop over the carriers
---     turn-first, turn-shut, turn-vain, turn-deep, turn-last     the turns: before the first; a wire that is not open; one that is passed over as the last one;
+--     turn-first, turn-shut, turn-masked, turn-deep, turn-last     the turns: before the first; a wire that is not open; one that is passed over as the last one;
 --                     one that was descended with; after the last
 --     child           the node of a descent with one more wire
---     wire-in, wire-fits, pay-few     the wire has a record and a mark, and no more is paid than the size
-use Prim.Native.Nat.{ℕ, suc, _+_, _*_, _-_, _/_, _≤_, _<_}
+--     wire-low, wire-in, wire-small, wire-fits, next-less, pay-few     the wire is below the top one, has a record and a mark; the limit falls; no more is paid than the size
+use Prim.Native.Nat.{ℕ, suc, _+_, _-_, _≤_, _<_}
 use native.Mathlib.Omega.{arith}
-use mathlib.Core.Path.{_≡_, refl, sym, _∙_, ap, subst}
+use mathlib.Core.Path.{_≡_, refl, sym, _∙_, subst}
 use mathlib.Core.Bool.{true}
 use mathlib.Core.List.{List, map}
 use lib.ListN.{length, getD, set, length-map}
@@ -27,7 +27,7 @@ use Rattle.carriers.proofs.Highest.{highest-most, highest-none, carrier-read}
 use Rattle.descent.specs.Marks.{isChosen, Node, Looked}
 use Rattle.descent.proofs.Marking.{read-open, read-not-open}
 use Rattle.descent.proofs.Nodes.{node-chosen, node-closed}
-use Rattle.descent.proofs.Ending.{vain}
+use Rattle.descent.proofs.Ending.{masked-end}
 use Rattle.descent.proofs.Turning.{Trying, Between, try-first, try-shut, try-open, try-last}
 
 pub few-wires : (table : List ℕ) → length table ≤ maxTableBytes → wireCount table ≤ maxWires
@@ -129,14 +129,14 @@ module _ (notion : Notion) (table carriers : List ℕ) (size top : ℕ) (sum : S
           child pay e =
               node-chosen notion table size top now sum paid left wire (d .node) wire-low (read-open now wire up) wire-fits more pay (d .some) added e
 
-          pub turn-vain : left ≡ 1 → masked maxMasks (termsOf more) ≡ true
+          pub turn-masked : left ≡ 1 → masked maxMasks (termsOf more) ≡ true
               → Descending notion table carriers size top sum paid left mask first before (set now wire 1) least next
-          turn-vain last still =
+          turn-masked last still =
               let none : left - 1 ≡ 0 = omega (arith, last) in
               subst (λ (marks : List ℕ). Descending notion table carriers size top sum paid left mask first before marks least next)
               (set-set now wire 2 1)
               (turn-deep least
-              (vain notion table size top (set now wire 2) more (paid + oneIf (pays notion (wireAt table wire))) (left - 1)
+              (masked-end notion table size top (set now wire 2) more (paid + oneIf (pays notion (wireAt table wire))) (left - 1)
               (child (oneIf (pays notion (wireAt table wire))) refl) least none still))
 
   pub turn-last : (now : List ℕ) (least limit : ℕ) → Descending notion table carriers size top sum paid left mask first before now least limit

@@ -2,7 +2,8 @@
 // with wires that carry one chosen mask of the sum so far. These functions ask what the entries have tested.
 ghost use mathlib.Core.Path.{_≡_};
 ghost use Prim.Native.Nat.{_+_, _≤_, _<_};
-ghost use mathlib.Core.Bool.{true};
+ghost use mathlib.Core.Bool.{_&&_};
+ghost use lib.Dec.{eqb};
 ghost use lib.ListN.{length, take};
 ghost use Rattle.limits.specs.Limits.{maxShares, maxMasks, maxTableBytes, maxWires, maxSize};
 ghost use Rattle.counts.specs.Counts.{Counts};
@@ -31,7 +32,7 @@ use revolving::rank;
 use shares::ones::WORDS;
 use wires::Notion;
 
-// What a search may still do with a wire: take it, nothing, or nothing since it is taken.
+// The marks of a wire: it may still be chosen, it may not, it is.
 pub const OPEN: u8 = 0;
 
 pub const CLOSED: u8 = 1;
@@ -66,7 +67,7 @@ fn rank_of_chosen(counts: &[u64; COUNTS], wires: usize, size: usize, marks: &[u8
     rank(counts, wires, &set[0..size])
 }
 
-// The least rank of the chosen wires, where they break, and of what was found before.
+// The lower of what was found before and of the rank of the chosen wires, where they break.
 fn settle(
     table: &[u8],
     counts: &[u64; COUNTS],
@@ -90,12 +91,11 @@ fn settle(
     least
 }
 
-// Whether a wire is passed over: the last one has to take all masks away.
-fn is_vain(sum: Sum, left: usize) -> bool
-    requires { ⌜ 0 < left ⌝ }
-    ensures { λ r. ⌜ (r ≡ true → (left ≡ 1) × (masked maxMasks (termsOf sum) ≡ true)) ⌝ }
+// Whether a sum with the last wire added keeps a mask: such a wire is passed over.
+fn leaves_masks(sum: Sum, left: usize) -> bool
+    ensures { λ r. ⌜ r ≡ (eqb left 1 && masked maxMasks (termsOf sum)) ⌝ }
 {
-    if 1 < left {
+    if left != 1 {
         return false;
     }
     is_masked(sum)
@@ -107,7 +107,7 @@ pub fn descend(
     counts: &[u64; COUNTS],
     ones: &[u8; WORDS],
     carriers: &[u16; CARRIERS],
-    order: &[usize; MAX_MASKS],
+    rarity: &[usize; MAX_MASKS],
     notion: Notion,
     size: usize,
     top: usize,
@@ -129,7 +129,7 @@ pub fn descend(
     if !is_masked(sum) {
         return found;
     }
-    let mask = rarest(order, sum);
+    let mask = rarest(rarity, sum);
     let mut least = found;
     let mut now = marks;
     let mut limit = highest_below(carriers, mask, top);
@@ -138,7 +138,7 @@ pub fn descend(
         limit = highest_below(carriers, mask, wire);
         if now[wire] == OPEN {
             let more = with_wire(sum, table, wire);
-            if is_vain(more, left) {
+            if leaves_masks(more, left) {
                 now[wire] = CLOSED;
             } else {
                 now[wire] = CHOSEN;
@@ -147,7 +147,7 @@ pub fn descend(
                     counts,
                     ones,
                     carriers,
-                    order,
+                    rarity,
                     notion,
                     size,
                     top,

@@ -5,11 +5,11 @@
 --     Passed                 no set of a size out of the first wires passes a test
 --     none-passed, top-done, top-found, all-done     before the first turn, after a turn, where a set is found, after the last turn
 use Prim.Native.Nat.{ℕ, zero, suc, _+_, _-_, _≤_, _<_}
-use native.Mathlib.Nat.{le-refl, not-suc-le-zero}
+use native.Mathlib.Nat.{not-suc-le-zero}
 use native.Mathlib.Decide.{decLt}
 use native.Mathlib.Omega.{arith}
 use native.Mathlib.Numerals.{add-one}
-use mathlib.Core.Path.{_≡_, refl, sym, _∙_, ap, ap₂, subst}
+use mathlib.Core.Path.{_≡_, refl, sym, _∙_, ap, subst}
 use mathlib.Core.Logic.{_⊎_, inl, inr}
 use mathlib.Core.Bool.{Bool, true, false, true≢false}
 use mathlib.Core.List.{List, map}
@@ -19,6 +19,7 @@ use lib.ListN.{length, set, replicate, length-set, length-replicate, getD-replic
 use lib.Seq.{set-set}
 use Rattle.limits.specs.Limits.{maxWires}
 use Rattle.basics.specs.Folds.{oneIf}
+use Rattle.basics.proofs.Numbers.{alike}
 use Rattle.counts.specs.Counts.{binom}
 use Rattle.counts.proofs.Binomial.{binom-none, binom-wider}
 use Rattle.revolving.specs.Order.{setAt, rankOf}
@@ -33,7 +34,7 @@ use Rattle.parts.proofs.Members.{keep-below}
 use Rattle.parts.proofs.Ranks.{rank-within, test-at}
 use Rattle.parts.proofs.Sums.{sum-one, paid-one, length-one}
 use Rattle.descent.specs.Marks.{isOpen, isClosed, isChosen, Fits, Node, Looked}
-use Rattle.descent.proofs.Marking.{alike, not-both, closed-not-chosen, chosen-other, open-other, closed-other, now-chosen, now-open, read-closed}
+use Rattle.descent.proofs.Marking.{not-both, closed-not-chosen, chosen-other, open-other, closed-other, now-chosen, now-open, read-closed}
 use Rattle.directed_search.specs.Least.{LeastRank}
 
 pub record Rooted (top : ℕ) (marks : List ℕ) : Type 0 where

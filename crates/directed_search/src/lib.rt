@@ -35,7 +35,7 @@ fn least_rank(
     counts: &[u64; COUNTS],
     ones: &[u8; WORDS],
     carriers: &[u16; CARRIERS],
-    order: &[usize; MAX_MASKS],
+    rarity: &[usize; MAX_MASKS],
     notion: Notion,
     size: usize,
 ) -> u64
@@ -53,7 +53,7 @@ fn least_rank(
             counts,
             ones,
             carriers,
-            order,
+            rarity,
             notion,
             size,
             top,

@@ -1,66 +1,26 @@
 -- What a breaking set of least size has in each of its parts: a mask, which a wire outside the part carries.
---     count-either              what is counted by one of two tests or by the other
---     depends-plus, more-seen   a sum of two depends on no share on which neither does, and so on no more shares than both
+--     broken                    whether the members of a test break a notion
 --     cut                       where a breaking set is cut into two parts and the sum of one has no mask, one of the two breaks
 --     part-masked               so each part of a breaking set of least size has a mask, but for none and all of it
 --     carrier                   a mask of a part's sum that the set's sum has not is carried by a wire outside the part
 use Prim.Native.Nat.{ℕ, _+_, _≤_, _<_}
-use native.Mathlib.Nat.{zero-add}
 use native.Mathlib.Decide.{decLt}
 use native.Mathlib.Omega.{arith}
 use mathlib.Core.Path.{_≡_, refl, sym, _∙_, ap, ap₂, subst}
 use mathlib.Core.Logic.{_⊎_, inl, inr}
-use mathlib.Core.Bool.{Bool, true, false, cond, _||_, xor, true≢false}
-use mathlib.Core.List.{List, [], _∷_, map}
+use mathlib.Core.Bool.{Bool, true, false, cond, xor, true≢false}
+use mathlib.Core.List.{map}
 use lib.ListN.{length}
-use Rattle.basics.specs.Folds.{fold, parity, some, count, oneIf, upTo}
-use Rattle.basics.proofs.Tests.{or-left, or-right, or-cases, false-xor, xor-false}
-use Rattle.basics.proofs.Folds.{fold-hom, fold-below, fold-unit, some-at, some-where, never, none-below}
+use Rattle.basics.specs.Folds.{parity, some, upTo}
+use Rattle.basics.proofs.Tests.{false-xor, xor-false}
+use Rattle.basics.proofs.Folds.{fold-hom, fold-below, fold-unit, some-where, never, none-below}
 use Rattle.wires.specs.declared.Notion.{Notion}
-use Rattle.wires.specs.Wires.{Terms, Wire, none, plus, total, swap, dependsA, countA, countB, masked, allowed, breaks}
+use Rattle.wires.specs.Wires.{Terms, Wire, none, plus, swap, countA, countB, masked, breaks}
+use Rattle.wires.proofs.Adding.{more-seen}
 use Rattle.wires.proofs.Breaks.{breaks-counts}
+use Rattle.wires.proofs.Value.{none-plus}
 use Rattle.parts.specs.Parts.{members, Parted, NoneBelow}
 use Rattle.parts.proofs.Sums.{sum, paid, fold-members, sum-parted, paid-parted, length-parted}
-use Rattle.wires.proofs.Value.{none-plus}
-
-pub count-either : {A : Type 0} (f g h : A → Bool) (l : List A) → ((x : A) → f x ≡ true → (g x ≡ true) ⊎ (h x ≡ true)) → count f l ≤ count g l + count h l
-count-either f g h [] e = omega arith
-count-either f g h (x ∷ l) e = go (f x) (g x) (h x) (e x) (count-either f g h l e)
-  where
-    go : (a b c : Bool) → (a ≡ true → (b ≡ true) ⊎ (c ≡ true)) → count f l ≤ count g l + count h l
-        → oneIf a + count f l ≤ oneIf b + count g l + (oneIf c + count h l)
-    go true true c k ih = omega arith
-    go true false true k ih = omega arith
-    go true false false k ih = let z = k refl in absurd (neither z)
-      where
-        neither : (false ≡ true) ⊎ (false ≡ true) → ⊥
-        neither (inl q) = true≢false (sym q)
-        neither (inr q) = true≢false (sym q)
-    go false b c k ih = omega arith
-
-xor-either : (a b : Bool) → xor a b ≡ true → (a ≡ true) ⊎ (b ≡ true)
-xor-either true b e = inl refl
-xor-either false b e = inr (sym (false-xor b) ∙ e)
-
-module _ (n : ℕ) (t u : Terms) where
-  pub depends-plus : (i : ℕ) → dependsA n (plus t u) i ≡ true → (dependsA n t i ≡ true) ⊎ (dependsA n u i ≡ true)
-  depends-plus i e = go (or-cases (some (plus t u .product i) (upTo n)) (plus t u .shareA i) e)
-    where
-      go : (some (plus t u .product i) (upTo n) ≡ true) ⊎ (plus t u .shareA i ≡ true) → (dependsA n t i ≡ true) ⊎ (dependsA n u i ≡ true)
-      go (inl p) = let r = some-where n (plus t u .product i) p in by (r .0) (r .1) (xor-either (t .product i (r .0)) (u .product i (r .0)) (r .2))
-        where
-          by : (j : ℕ) → j < n → (t .product i j ≡ true) ⊎ (u .product i j ≡ true) → (dependsA n t i ≡ true) ⊎ (dependsA n u i ≡ true)
-          by j h (inl q) = inl (or-left (some (t .product i) (upTo n)) (t .shareA i) (some-at n j (t .product i) h q))
-          by j h (inr q) = inr (or-left (some (u .product i) (upTo n)) (u .shareA i) (some-at n j (u .product i) h q))
-      go (inr p) = single (xor-either (t .shareA i) (u .shareA i) p)
-        where
-          single : (t .shareA i ≡ true) ⊎ (u .shareA i ≡ true) → (dependsA n t i ≡ true) ⊎ (dependsA n u i ≡ true)
-          single (inl q) = inl (or-right (some (t .product i) (upTo n)) (t .shareA i) q)
-          single (inr q) = inr (or-right (some (u .product i) (upTo n)) (u .shareA i) q)
-
-  pub more-seen : countA n (plus t u) ≤ countA n t + countA n u
-  unfolding countA
-  more-seen = count-either (dependsA n (plus t u)) (dependsA n t) (dependsA n u) (upTo n) depends-plus
 
 module _ (notion : Notion) (shares masks : ℕ) (wire : ℕ → Wire) (n : ℕ) where
   abbrev pub broken : (ℕ → Bool) → Bool
@@ -92,25 +52,31 @@ module _ (notion : Notion) (shares masks : ℕ) (wire : ℕ → Wire) (n : ℕ) 
         pay : paid wire n notion s ≡ paid wire n notion p + paid wire n notion q
         pay = paid-parted wire n notion s p q parted
 
-        a-seen : countA shares (sum wire n s) ≤ countA shares left + countA shares right
-        a-seen = subst (λ (t : Terms). countA shares t ≤ countA shares left + countA shares right) (sym whole) (more-seen shares left right)
+        -- of the shares of either operand: as many are seen as in both parts at most, and so one part sees more than it pays for
+        over : (seen : Terms → ℕ) → ((t u : Terms) → seen (plus t u) ≤ seen t + seen u) → paid wire n notion s < seen (sum wire n s)
+            → (paid wire n notion p < seen left) ⊎ (paid wire n notion q < seen right)
+        over seen most h = pick (decLt (paid wire n notion p) (seen left))
+          where
+            both : seen (sum wire n s) ≤ seen left + seen right
+            both = subst (λ (t : Terms). seen t ≤ seen left + seen right) (sym whole) (most left right)
 
-        b-seen : countB shares (sum wire n s) ≤ countB shares left + countB shares right
-        b-seen = subst (λ (t : Terms). countB shares t ≤ countB shares left + countB shares right) (sym whole) (more-seen shares (swap left) (swap right))
+            pick : Dec (paid wire n notion p < seen left) → (paid wire n notion p < seen left) ⊎ (paid wire n notion q < seen right)
+            pick (yes k) = inl k
+            pick (no k) = inr (omega (arith, h, k, pay, both))
 
         go : masked masks right ≡ false
             → (paid wire n notion s < countA shares (sum wire n s)) ⊎ (paid wire n notion s < countB shares (sum wire n s))
             → (broken p ≡ true) ⊎ (broken q ≡ true)
-        go none (inl h) = pick (decLt (paid wire n notion p) (countA shares left))
+        go none (inl h) = by-a (over (countA shares) (more-seen shares) h)
           where
-            pick : Dec (paid wire n notion p < countA shares left) → (broken p ≡ true) ⊎ (broken q ≡ true)
-            pick (yes k) = inl (breaks-counts notion shares masks (map wire (members n p)) .1 (free, inl k))
-            pick (no k) = inr (breaks-counts notion shares masks (map wire (members n q)) .1 (none, inl (omega (arith, h, pay, a-seen))))
-        go none (inr h) = pick (decLt (paid wire n notion p) (countB shares left))
+            by-a : (paid wire n notion p < countA shares left) ⊎ (paid wire n notion q < countA shares right) → (broken p ≡ true) ⊎ (broken q ≡ true)
+            by-a (inl k) = inl (breaks-counts notion shares masks (map wire (members n p)) .1 (free, inl k))
+            by-a (inr k) = inr (breaks-counts notion shares masks (map wire (members n q)) .1 (none, inl k))
+        go none (inr h) = by-b (over (countB shares) (λ t u. more-seen shares (swap t) (swap u)) h)
           where
-            pick : Dec (paid wire n notion p < countB shares left) → (broken p ≡ true) ⊎ (broken q ≡ true)
-            pick (yes k) = inl (breaks-counts notion shares masks (map wire (members n p)) .1 (free, inr k))
-            pick (no k) = inr (breaks-counts notion shares masks (map wire (members n q)) .1 (none, inr (omega (arith, h, pay, b-seen))))
+            by-b : (paid wire n notion p < countB shares left) ⊎ (paid wire n notion q < countB shares right) → (broken p ≡ true) ⊎ (broken q ≡ true)
+            by-b (inl k) = inl (breaks-counts notion shares masks (map wire (members n p)) .1 (free, inr k))
+            by-b (inr k) = inr (breaks-counts notion shares masks (map wire (members n q)) .1 (none, inr k))
 
     pub carrier : (k : ℕ) → sum wire n s .mask k ≡ false → left .mask k ≡ true → (w : ℕ) × (w < n) × (q w ≡ true) × (wire w .terms .mask k ≡ true)
     carrier k gone has = found (right .mask k) refl

@@ -14,8 +14,8 @@ use mathlib.Core.List.{List, [], _∷_, map}
 use borrow.Author.Tests.{eqb-true}
 use lib.Dec.{eqb}
 use lib.ListN.{length}
-use Rattle.basics.specs.Folds.{fold, count, keep, oneIf, upTo}
-use Rattle.basics.proofs.Folds.{fold-map, fold-both, fold-below, fold-pick, fold-cong}
+use Rattle.basics.specs.Folds.{fold, keep, oneIf, upTo}
+use Rattle.basics.proofs.Folds.{fold-map, fold-both, fold-below, fold-pick}
 use Rattle.wires.specs.declared.Notion.{Notion}
 use Rattle.wires.specs.Wires.{Terms, Wire, none, plus, total, pays, allowed}
 use Rattle.wires.proofs.Value.{plus-none, none-plus, plus-comm, plus-assoc}
@@ -90,8 +90,7 @@ module _ (wire : ℕ → Wire) (n : ℕ) where
 
 pub length-parted : (n : ℕ) (s p q : ℕ → Bool) → Parted n s p q → length (members n s) ≡ length (members n p) + length (members n q)
 length-parted n s p q h =
-    members-length n s ∙ fold-below _+_ 0 n (λ w. oneIf (s w)) (λ w. oneIf (p w) + oneIf (q w)) h
-    ∙ fold-both _+_ 0 zero-add add-comm add-assoc (λ w. oneIf (p w)) (λ w. oneIf (q w)) (upTo n)
+    members-length n s ∙ fold-parted _+_ 0 zero-add add-zero add-comm add-assoc (λ w. 1) n s p q h
     ∙ ap₂ (λ (a b : ℕ). a + b) (sym (members-length n p)) (sym (members-length n q))
 
 pub length-one : (n x : ℕ) → x < n → length (members n (λ w. eqb w x)) ≡ 1

@@ -27,7 +27,7 @@ fn carried(carriers: &[u16; CARRIERS], mask: usize, limit: usize) -> usize
     0
 }
 
-// How many wires carry a mask. One that no wire carries is in no sum.
+// How many wires carry a mask; the heaviest weight where none does, since such a mask is in no sum.
 fn weight(carriers: &[u16; CARRIERS], wires: usize, mask: usize) -> usize
     requires { ⌜ (mask < maxMasks) × (wires ≤ maxWires) ⌝ }
 {
@@ -111,7 +111,7 @@ fn lowest(sum: Sum) -> usize
     mask
 }
 
-// The mask of a sum that comes first in an order. Where the order has none of them, which that of `rarest_first` never is, any is as good.
+// The mask of a sum that comes first in an order. An order that has none of them, which `rarest_first` never makes, is no reason to stop: any mask is right.
 pub fn rarest(order: &[usize; MAX_MASKS], sum: Sum) -> usize
     requires { ⌜ masked maxMasks (termsOf sum) ≡ true ⌝ }
     ensures { λ r. ⌜ (r < maxMasks) × (termsOf sum .mask r ≡ true) ⌝ }

@@ -1,4 +1,4 @@
-// How many sets the two verdicts have to answer for, and how long that takes where the directed search can pass over none.
+// How many sets the two verdicts have to answer for, and how long a visit to each takes.
 use console::saying::say;
 use console::saying::say_number;
 use console::times::SETS_A_SECOND;
@@ -20,13 +20,13 @@ pub fn is_long(sets: u64) -> bool {
     LONG <= sets
 }
 
-// Says how long a check of so many sets may take. How many of them the search passes over is not known before it has ended.
+// Says how long a visit to each of so many sets takes. How many of them the search passes over is not known before it has ended.
 pub fn warn(sets: u64) {
     say_number(b"report: up to ", sets);
-    say(b" sets to look at, at worst some ");
+    say(b" sets to look at, some ");
     say_time(sets / SETS_A_SECOND);
     say(
-        b", a second where few wires share a mask; docs/GUIDE.md tells how to divide them over machines\n",
+        b" if each is visited, mostly far less; docs/GUIDE.md tells how to divide them over machines\n",
     );
 }
 

@@ -22,7 +22,7 @@ use Rattle.breaking.proofs.Paying.{at-most}
 use Rattle.counts.specs.Counts.{binom}
 use Rattle.records.specs.Layout.{wireAt, wireCount, inside, termsOf}
 use Rattle.wires.specs.declared.Notion.{Notion}
-use Rattle.wires.specs.Wires.{Terms, Wire, none, plus, total, SumOfValues, pays, allowed}
+use Rattle.wires.specs.Wires.{Terms, none, plus, total, SumOfValues, pays, allowed}
 use Rattle.wires.proofs.Value.{terms-ext, plus-none, plus-comm, plus-assoc, sum-of-values}
 use Rattle.revolving.specs.Order.{setAt, isSet}
 use Rattle.revolving.proofs.Rising.{Chosen, isSet-parts}

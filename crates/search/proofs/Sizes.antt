@@ -123,7 +123,7 @@ module _ (test : List ℕ → Bool) (n : ℕ) where
       }
 
   -- every size in turn, at all of its ranks
-  all-smaller : (size : ℕ) → 1 ≤ size → ((k r : ℕ) → 1 ≤ k → k < size → r < binom n k → test (setAt n k r) ≡ false) → SizesClean size
+  pub all-smaller : (size : ℕ) → 1 ≤ size → ((k r : ℕ) → 1 ≤ k → k < size → r < binom n k → test (setAt n k r) ≡ false) → SizesClean size
   all-smaller size low clean = from-on SizesClean 1 size no-size next size low (le-refl size)
     where
       next : (k : ℕ) → 1 ≤ k → k < size → SizesClean k → SizesClean (k + 1)

@@ -1,4 +1,4 @@
-// Prints what `verdict` and `range_check` answer: on the cases of its input, then on both sides of every limit, then on a table of 512 wires. A case
+// Prints what `verdict`, `directed_verdict` and `range_check` answer: on the cases of its input, then on both sides of every limit, then on a table of 512 wires. A case
 // is the shares and the masks, a byte each, the table's length in two bytes, the lower first, and the table. Each table has a line of its own, and
 // each call on it another, with the whole buffer that was lent and a dash for a number that is as it was. `tests/try_verdict.py` writes the input,
 // and works the output out from the scope.
@@ -125,7 +125,7 @@ fn jobs(table: &[u8], shares: usize, masks: usize, notion: usize, size: usize) {
     }
 }
 
-// A verdict with a fresh buffer, of which the first `room` numbers are lent.
+// A verdict, and the directed verdict, each with a fresh buffer of which the first `room` numbers are lent.
 pub fn tell_verdict(
     table: &[u8],
     shares: usize,
@@ -136,12 +136,19 @@ pub fn tell_verdict(
 )
     requires { ⌜ room ≤ 9 ⌝ }
 {
-    say(b"verdict");
+    asked(b"verdict", notion, order, room);
+    let mut buffer = [UNWRITTEN; ROOM];
+    ask_verdict(table, shares, masks, notion, order, room, &mut buffer);
+    asked(b"directed", notion, order, room);
+    let mut other = [UNWRITTEN; ROOM];
+    ask_directed(table, shares, masks, notion, order, room, &mut other);
+}
+
+fn asked(name: &[u8], notion: usize, order: usize, room: usize) {
+    say(name);
     size_number(notion);
     size_number(order);
     size_number(room);
-    let mut buffer = [UNWRITTEN; ROOM];
-    ask_verdict(table, shares, masks, notion, order, room, &mut buffer);
 }
 
 fn ask_verdict(
@@ -156,6 +163,34 @@ fn ask_verdict(
     requires { ⌜ room ≤ length (now buffer) ⌝ }
 {
     let answer = verdict::verdict(table, shares, masks, notion, order, &mut buffer[0..room]);
+    tell_answer(answer);
+    held(buffer);
+}
+
+fn ask_directed(
+    table: &[u8],
+    shares: usize,
+    masks: usize,
+    notion: usize,
+    order: usize,
+    room: usize,
+    buffer: &mut [u16],
+)
+    requires { ⌜ room ≤ length (now buffer) ⌝ }
+{
+    let answer = directed::directed_verdict(
+        table,
+        shares,
+        masks,
+        notion,
+        order,
+        &mut buffer[0..room],
+    );
+    tell_answer(answer);
+    held(buffer);
+}
+
+fn tell_answer(answer: VerdictAnswer) {
     match answer {
         VerdictAnswer::Holds => say(b": holds"),
         VerdictAnswer::Broken { size } => {
@@ -164,7 +199,6 @@ fn ask_verdict(
         }
         VerdictAnswer::Refused(why) => refused(why),
     }
-    held(buffer);
 }
 
 // The same for a range; gives the rank that was found, or the end of the range.

@@ -1,4 +1,4 @@
-// The two verdicts: told once, by whichever search.
+// The two verdicts for callers in C: what is told stands once, for either search.
 ghost use mathlib.Core.Path.{_≡_};
 ghost use mathlib.Core.List.{[], _∷_};
 ghost use Rattle.verdict_answers.specs.Answers.{verdictOf};

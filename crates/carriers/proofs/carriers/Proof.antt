@@ -21,14 +21,14 @@ loop-holds c = (search needs, length-replicate {A = ℕ} places 0, rows-first _)
 mul-loop : tie.Need-mul-loop Inv-loop μ-loop
 mul-loop c = search needs
 
-mul-with-wire : tie.Need-mul-with-wire Inv-loop μ-loop
-mul-with-wire c = search needs
+mul-highest-with : tie.Need-mul-highest-with Inv-loop μ-loop
+mul-highest-with c = search needs
 
-array-read-with-wire : tie.Need-array-read-with-wire Inv-loop μ-loop
-array-read-with-wire c = search needs
+array-read-highest-with : tie.Need-array-read-highest-with Inv-loop μ-loop
+array-read-highest-with c = search needs
 
-with-wire-requires : tie.Need-with-wire-requires Inv-loop μ-loop
-with-wire-requires c κs = search needs
+highest-with-requires : tie.Need-highest-with-requires Inv-loop μ-loop
+highest-with-requires c κs = search needs
 
 add-highest : tie.Need-add-highest Inv-loop μ-loop
 add-highest c = search needs
@@ -50,7 +50,7 @@ loop-again c =
     let l = c .before .before .loop in (
       search needs,
       simp length-set (l .inv .1),
-      rows-more _ _ _ _ (omega arith) (l .inv .2) (c .with-wire .ensures),
+      rows-more _ _ _ _ (omega arith) (l .inv .2) (c .highest-with .ensures),
     )
 
 returns : tie.Need-returns Inv-loop μ-loop
@@ -64,9 +64,9 @@ carriers-spec =
     μ-loop
     loop-holds
     mul-loop
-    mul-with-wire
-    array-read-with-wire
-    with-wire-requires
+    mul-highest-with
+    array-read-highest-with
+    highest-with-requires
     add-highest
     mul-highest
     array-write-highest

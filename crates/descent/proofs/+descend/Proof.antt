@@ -1,4 +1,4 @@
--- The proof of the cycle of calls {descend}: as many wires less are to come at each call. Each way round the loop over the carriers has its lemma.
+-- The proof of the cycle of calls {descend}: one wire less is to come at each call. Each way round the loop over the carriers has its lemma.
 -- Assumes nothing.
 use Prim.Native.Nat.{ℕ, _<_}
 use native.Mathlib.Omega.{arith}
@@ -8,13 +8,14 @@ use borrow.Author.Tests.{not-true, not-false}
 use borrow.Fn.Kinds.{In}
 use borrow.Fn.PlainCycle.{Measures, is, falls, and}
 use Rattle.descent.proofs.Ending.{settled, dropped}
-use Rattle.descent.proofs.Turns.{few-wires, Descending, turn-first, turn-shut, turn-vain, turn-deep, turn-last, child, wire-low, wire-in, wire-small, wire-fits, next-less, pay-few}
+use Rattle.descent.proofs.Settling.{last-masked}
+use Rattle.descent.proofs.Turns.{few-wires, Descending, turn-first, turn-shut, turn-masked, turn-deep, turn-last, child, wire-in, wire-small, next-less, pay-few}
 use Rattle.descent.proofs.settle.Reads as settle-reads
 use Rattle.breaking.proofs.is_masked.Reads as is-masked-reads
 use Rattle.rarity.proofs.rarest.Reads as rarest-reads
 use Rattle.carriers.proofs.highest_below.Reads as highest-below-reads
 use Rattle.records.proofs.sums.with_wire.Reads as with-wire-reads
-use Rattle.descent.proofs.is_vain.Reads as is-vain-reads
+use Rattle.descent.proofs.leaves_masks.Reads as leaves-masks-reads
 use Rattle.breaking.proofs.pay.Reads as pay-reads
 use Rattle.descent.proofs.descend.Reads as descend
 use Rattle.descent.proofs.descend.Kinds as descend-kinds
@@ -44,8 +45,8 @@ calls t = (
   highest-below-reads.Learnt,
   with-wire-reads.Asked,
   with-wire-reads.Learnt,
-  is-vain-reads.Asked,
-  is-vain-reads.Learnt,
+  leaves-masks-reads.Asked,
+  leaves-masks-reads.Learnt,
   pay-reads.Asked,
   pay-reads.Learnt,
   descend-below t,
@@ -110,9 +111,8 @@ with-wire-requires : (t : ℕ) → descend-lts.Need-with-wire-requires (calls t)
 with-wire-requires t c κs =
     wire-in _ _ _ _ _ _ _ _ _ _ _ _ _ _ (c .before .before .before .loop .inv) (c .before .before .loop-test .taken)
 
-is-vain-requires : (t : ℕ) → descend-lts.Need-is-vain-requires (calls t) (descend-at t) descend.Post Inv-loop μ-loop
-is-vain-requires t c κs =
-    (c .before .before .before .before .loop .inv) .some
+leaves-masks-requires : (t : ℕ) → descend-lts.Need-leaves-masks-requires (calls t) (descend-at t) descend.Post Inv-loop μ-loop
+leaves-masks-requires t c κs = search needs
 
 array-write-now : (t : ℕ) → descend-lts.Need-array-write-now (calls t) (descend-at t) descend.Post Inv-loop μ-loop
 array-write-now t c =
@@ -124,8 +124,8 @@ loop-less t c =
 
 loop-again : (t : ℕ) → descend-lts.Need-loop-again (calls t) (descend-at t) descend.Post Inv-loop μ-loop
 loop-again t c =
-    let v = c .before .is-vain .ensures (c .if4 .taken) in
-    turn-vain _ _ _ _ _ _ _ _ _ _ _ _ _ _ (c .before .before .before .before .before .before .loop .inv) (c .before .before .before .before .before .loop-test .taken) _ (c .before .before .before .before .highest-below2 .ensures) (c .before .before .before .if3 .taken) _ (c .before .before .with-wire .ensures) (v .0) (v .1)
+    let v = last-masked _ _ _ (c .before .leaves-masks .ensures) (c .if4 .taken) in
+    turn-masked _ _ _ _ _ _ _ _ _ _ _ _ _ _ (c .before .before .before .before .before .before .loop .inv) (c .before .before .before .before .before .loop-test .taken) _ (c .before .before .before .before .highest-below2 .ensures) (c .before .before .before .if3 .taken) _ (c .before .before .with-wire .ensures) (v .0) (v .1)
 
 array-write-now-2 : (t : ℕ) → descend-lts.Need-array-write-now-2 (calls t) (descend-at t) descend.Post Inv-loop μ-loop
 array-write-now-2 t c =
@@ -190,7 +190,7 @@ pub +descend-spec : {M : Type 1} → statement M
     (highest-below-requires-2 t)
     (array-read-if3 t)
     (with-wire-requires t)
-    (is-vain-requires t)
+    (leaves-masks-requires t)
     (array-write-now t)
     (loop-less t)
     (loop-again t)

@@ -73,7 +73,7 @@ same-length-2 c = search needs
 returns-2 : tie.Need-returns-2 Inv-loop μ-loop
 returns-2 c =
     let i = c .before .loop .inv in
-    sizes-done _ _ _ _ _ _ (i .0) refl (omega (arith, c .loop-test .left)) (i .3)
+    sizes-done _ _ _ _ _ _ (i .0) refl (i .2) (omega (arith, c .loop-test .left)) (i .3)
 
 same-length-3 : tie.Need-same-length-3 Inv-loop μ-loop
 same-length-3 c = search needs
@@ -82,7 +82,7 @@ returns-3 : tie.Need-returns-3 Inv-loop μ-loop
 returns-3 c =
     let i = c .before .before .before .before .before .before .before .before .before .before .loop .inv in
     let done = size-done _ _ _ _ (i .0) (c .before .before .before .before .least-rank .ensures) (omega (arith, c .before .if1 .left, c .before .before .count .ensures)) in
-    sizes-done _ _ _ _ _ _ done refl (omega (arith, c .if2 .left)) (omega (arith, c .before .before .before .before .before .before .before .before .before .loop-test .taken))
+    sizes-done _ _ _ _ _ _ done refl (omega arith) (omega (arith, c .if2 .left)) (omega (arith, c .before .before .before .before .before .before .before .before .before .loop-test .taken))
 
 pub first-set-spec : {M : Type 1} → statement M
 first-set-spec =
