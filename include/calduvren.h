@@ -34,11 +34,11 @@
  * - With status 0 it writes its answer through the pointers. A number that is named below as written is written, and
  *   no other is touched; of a lent buffer nothing is touched past what is written.
  * - Every number may have any value and every buffer any contents. A call always returns, but nothing interrupts it: a
- *   verdict, a range check and a report take 1.5 to 6 nanoseconds for each set that they look at, and a verdict or a
- *   report that finds no breaking set looks at every set of up to as many wires as the order (of 512 wires, months at
- *   order 7). calduvren_check_size tells beforehand how many these are, from a text alone; calduvren_set_count does so
- *   from a number of wires, and calduvren_job divides them for range checks. calduvren_directed_verdict gives the same
- *   verdict and looks at few of these sets where the table is that of a gadget.
+ *   verdict and a range check take 1.5 to 6 nanoseconds for each set that they look at, and a verdict that finds no
+ *   breaking set looks at every set of up to as many wires as the order (of 512 wires, months at order 7).
+ *   calduvren_check_size tells beforehand how many these are, from a text alone; calduvren_set_count does so from a
+ *   number of wires, and calduvren_job divides them for range checks. calduvren_directed_verdict gives the same verdict
+ *   and looks at few of these sets where the table is that of a gadget; so does a report.
  * - `yes`, `holds` and `clean` are 1 where the answer is good and 0 where it is not: a caller that sets them to 0
  *   beforehand takes no refusal for a good answer. A table of length 0 is a table of no wires, and holds.
  *

@@ -273,6 +273,7 @@ def title(table, shares, masks):
 
 
 def verdict(table, shares, masks, notion, order, room=ROOM):
+    """Prints the answer of the verdict, and again as that of the directed verdict, which is the same."""
     refused = tested(table, shares, masks)
     if not refused and notion not in (NI, SNI):
         refused = 14
@@ -280,13 +281,10 @@ def verdict(table, shares, masks, notion, order, room=ROOM):
         refused = 15
     if not refused and room < order:
         refused = 16
-    head = "verdict", notion, order, room
-    if refused:
-        return line(head, ("refused", refused))
-    first = first_breaking(records_of(table), notion, order)
-    if first is None:
-        return line(head, ("holds",))
-    line(head, ("broken", len(first)), first)
+    first = None if refused else first_breaking(records_of(table), notion, order)
+    answer = ("refused", refused) if refused else ("holds",) if first is None else ("broken", len(first))
+    for name in "verdict", "directed":
+        line((name, notion, order, room), answer, first or ())
 
 
 def range_check(table, shares, masks, notion, size, start, end, room=ROOM):
