@@ -2,55 +2,12 @@
 //! that can be cut into two parts without masks are not looked at. Each is wrong in one thing, and some verdict has to
 //! tell it.
 
-use crate::model::breaking::{allowed, breaks, shares_of_a, shares_of_b, sum};
+use crate::model::breaking::{allowed, shares_of_a, shares_of_b, sum};
+use crate::model::directed::{Directed, Ends, RIGHT};
 use crate::model::found_by_verdict;
 use crate::model::records::Record;
-use crate::model::sets;
 use crate::reply::Reply;
 use crate::tally::Tally;
-
-/// How a search goes. The right way is `RIGHT`; the faults put one wrong thing in its place.
-struct Directed {
-    /// The sizes that are searched, one after the other.
-    sizes: fn(usize) -> Vec<usize>,
-    /// Whether a set of so many wires is judged where those of this size are searched.
-    judges: fn(usize, usize) -> bool,
-    /// Whether a wire may be in a set at all, and whether a set may start at it.
-    takes: fn(&[Record], u16) -> bool,
-    starts: fn(&[Record], u16) -> bool,
-    /// The masks of which one is chosen to go on by, from the wires so far and their sum; none where the search ends.
-    chosen_from: fn(&[Record], &[u16], Record) -> u64,
-    /// Whether it goes on from these wires, and from them to this one.
-    goes_on: fn(&[Record], &[u16], usize) -> bool,
-    goes_to: fn(&[u16], u16) -> bool,
-    /// Whether a wire that was tried at one place may be taken again once the search is back there.
-    frees: bool,
-    /// By which the least of all that are found is taken, and which of them are found.
-    rank: fn(&[u16]) -> u64,
-    ends: Ends,
-}
-
-#[derive(Clone, Copy, PartialEq)]
-enum Ends {
-    /// When all wires were a start.
-    AtLast,
-    /// With the first set, or with the start that brought it.
-    WithASet,
-    WithItsStart,
-}
-
-const RIGHT: Directed = Directed {
-    sizes: |order| (1..=order).collect(),
-    judges: |wires, size| wires == size,
-    takes: |_, _| true,
-    starts: |_, _| true,
-    chosen_from: |_, _, sum| sum.masks,
-    goes_on: |_, _, _| true,
-    goes_to: |_, _| true,
-    frees: true,
-    rank: sets::rank,
-    ends: Ends::AtLast,
-};
 
 const WRONG: [(&str, Directed); 15] = [
     (
@@ -173,95 +130,18 @@ pub fn name_all(tally: &mut Tally) {
 
 /// On a verdict that the engine gave.
 pub fn verdict(tally: &mut Tally, records: &[Record], notion: usize, order: usize, engine: &Reply) {
-    for (name, wrong) in &WRONG {
-        tally.fault(name, wrong.verdict(records, notion, order) != *engine);
-    }
-    // Or the faults would be told by something else than what is wrong with them.
-    if RIGHT.verdict(records, notion, order) != *engine {
-        tally.differs(|| format!("DirectedVerdict notion {notion} order {order}: a right directed search differs"));
-    }
-}
-
-/// A search for sets of one size that is under way.
-struct UnderWay<'a> {
-    how: &'a Directed,
-    records: &'a [Record],
-    notion: usize,
-    size: usize,
-    barred: Vec<bool>,
-    found: Option<(u64, Vec<u16>)>,
-}
-
-impl Directed {
-    fn verdict(&self, records: &[Record], notion: usize, order: usize) -> Reply {
-        let mut sizes = (self.sizes)(order).into_iter();
-        found_by_verdict(sizes.find_map(|size| self.find(records, notion, size)))
-    }
-
-    fn find(&self, records: &[Record], notion: usize, size: usize) -> Option<Vec<u16>> {
-        let mut search = UnderWay {
-            how: self,
-            records,
-            notion,
-            size,
-            barred: (0..records.len() as u16)
-                .map(|wire| !(self.takes)(records, wire))
-                .collect(),
-            found: None,
+    let found_by = |how: &Directed| {
+        let Ok(found) = how.first(records, notion, order, u64::MAX) else {
+            unreachable!("any number may be searched")
         };
-        for start in 0..records.len() as u16 {
-            if search.barred[usize::from(start)] || !(self.starts)(records, start) {
-                continue;
-            }
-            search.barred[usize::from(start)] = true;
-            search.go_on(&mut vec![start]);
-            if search.found.is_some() && self.ends != Ends::AtLast {
-                break;
-            }
-        }
-        search.found.map(|(_, set)| set)
+        found_by_verdict(found)
+    };
+    for (name, wrong) in &WRONG {
+        tally.fault(name, found_by(wrong) != *engine);
     }
-}
-
-impl UnderWay<'_> {
-    /// From these wires, in the order in which they were taken.
-    fn go_on(&mut self, set: &mut Vec<u16>) {
-        if (self.how.judges)(set.len(), self.size) {
-            self.judge(set);
-        }
-        let ends = self.found.is_some() && self.how.ends == Ends::WithASet;
-        if ends || set.len() == self.size || !(self.how.goes_on)(self.records, set, self.notion) {
-            return;
-        }
-        let masks = (self.how.chosen_from)(self.records, set, sum(self.records, set));
-        let mask = masks & masks.wrapping_neg();
-        let mut tried = Vec::new();
-        for wire in 0..self.records.len() as u16 {
-            let place = usize::from(wire);
-            let carries = self.records[place].masks & mask != 0;
-            if carries && !self.barred[place] && (self.how.goes_to)(set, wire) {
-                self.barred[place] = true;
-                tried.push(place);
-                set.push(wire);
-                self.go_on(set);
-                set.pop();
-            }
-        }
-        if self.how.frees {
-            tried.into_iter().for_each(|place| self.barred[place] = false);
-        }
-    }
-
-    fn judge(&mut self, set: &[u16]) {
-        let mut rising = set.to_vec();
-        rising.sort_unstable();
-        let ends = self.found.is_some() && self.how.ends == Ends::WithASet;
-        if ends || !breaks(self.records, &rising, self.notion) {
-            return;
-        }
-        let rank = (self.how.rank)(&rising);
-        if self.found.as_ref().is_none_or(|(least, _)| rank < *least) {
-            self.found = Some((rank, rising));
-        }
+    // Or the faults would be told by something else than what is wrong with them; and the model's reports go by it where
+    // the sets are too many.
+    if found_by(&RIGHT) != *engine {
+        tally.differs(|| format!("DirectedVerdict notion {notion} order {order}: the model's directed search differs"));
     }
 }

@@ -2,6 +2,7 @@
 //! refusals in the scope's order (the two that give a verdict are one here); the modules hold what they rest on.
 
 pub mod breaking;
+pub mod directed;
 pub mod functions;
 pub mod isw;
 pub mod lines;
