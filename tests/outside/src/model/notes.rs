@@ -134,8 +134,9 @@ impl Way {
             return Vec::new();
         }
         let time = (self.time)(sets / SETS_IN_A_SECOND);
+        let mostly = "a second where few wires share a mask";
         let advice = "docs/GUIDE.md tells how to divide them over machines";
-        format!("report: up to {sets} sets to look at, some {time}; {advice}\n").into_bytes()
+        format!("report: up to {sets} sets to look at, at worst some {time}, {mostly}; {advice}\n").into_bytes()
     }
 
     pub fn on_refusal(&self, text: &[u8], Fault { offset, cause }: Fault) -> Vec<u8> {
