@@ -5,8 +5,6 @@ use std::path::{Path, PathBuf};
 const GADGETS: &str = "gadgets";
 /// The texts of the program `try_report`, and the list of them.
 const TEXTS: &str = "crates/try_report/data";
-/// What it has to print: the name of each text and the lines of its report, as `tests/try_report.py` works them out.
-const REPORTS: &str = "crates/try_report/stdout";
 
 pub fn read(path: &Path) -> Vec<u8> {
     std::fs::read(path).unwrap_or_else(|why| panic!("{} can be read: {why}", path.display()))
@@ -23,19 +21,12 @@ pub fn gadgets() -> Vec<PathBuf> {
     gadgets
 }
 
-/// Every text of the list.
+/// Every text of the list, where a word stands before each.
 pub fn listed() -> Vec<PathBuf> {
     let list = String::from_utf8(read(&Path::new(TEXTS).join("index"))).expect("the list is of plain letters");
-    list.lines().map(|name| Path::new(TEXTS).join(name)).collect()
-}
-
-/// The report on a text of the list that `tests/try_report.py` has worked out.
-pub fn report_on(path: &Path) -> String {
-    let reports = String::from_utf8(read(Path::new(REPORTS))).expect("reports are of plain letters");
-    let after_name = reports
-        .lines()
-        .skip_while(|line| Path::new(TEXTS).join(line) != path)
-        .skip(1);
-    let lines = after_name.take_while(|line| !line.ends_with(".txt"));
-    lines.map(|line| format!("{line}\n")).collect()
+    let path = |line: &str| {
+        let (_, name) = line.split_once(' ').expect("a line is a word and a name");
+        Path::new(TEXTS).join(name)
+    };
+    list.lines().map(path).collect()
 }

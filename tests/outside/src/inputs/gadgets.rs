@@ -1,6 +1,7 @@
 //! Descriptions of gadgets from the literature and near misses of them: multiplication of Ishai, Sahai and Wagner,
 //! refreshing in a ring or pair by pair, sums and plain copies. And some that are made for a break of a given size.
 
+use crate::model::records::{MAX_MASKS, MAX_SHARES, MAX_WIRES};
 use crate::random::Random;
 
 /// A description before it becomes bytes.
@@ -96,22 +97,52 @@ pub enum End {
     Mask,
 }
 
-/// A gadget of an order from 2 that no set of fewer wires than the order breaks, under either notion. Each line but
-/// the last adds one share to the chain, a sum that shares a mask with the sum of the line before and one with that of
-/// the line after, and then a mask of its own, so that the outer wire is of no use. Only all sums of the chain together
-/// have no mask left. The last line is padding, the sum of so many masks that are nowhere else.
+/// A gadget of an order from 2 that no set of fewer wires than the order breaks, under either notion.
 pub fn late(order: usize, end: End, padding: usize) -> Description {
-    let own = |i: usize| order - 1 + i;
+    late_by(order, order, end, padding)
+}
+
+/// A gadget of an order that no set of fewer wires than `size` breaks, from 2 to the order, under either notion. Each of
+/// so many lines adds one share to the chain, a sum that shares a mask with the sum of the line before and one with that
+/// of the line after, and then a mask of its own, so that the outer wire is of no use. Only all sums of the chain
+/// together have no mask left. The next line is padding, the sum of so many masks that are nowhere else. The other lines
+/// are one of these masks each.
+pub fn late_by(size: usize, order: usize, end: End, padding: usize) -> Description {
+    let own = |i: usize| size - 1 + i;
     let (end, padding) = match end {
-        End::Share => (format!("a{order}"), own(order)..own(order) + padding),
-        End::Mask => (format!("r{}", own(order)), own(order) + 1..own(order) + 1 + padding),
+        End::Share => (format!("a{size}"), own(size)..own(size) + padding),
+        End::Mask => (format!("r{}", own(size)), own(size) + 1..own(size) + 1 + padding),
     };
     Description::new(order, padding.end, |i| match i {
         0 => format!("(a0 r0) r{}", own(0)),
-        i if i < order - 1 => format!("((a{i} r{}) r{i}) r{}", i - 1, own(i)),
-        i if i < order => format!("((a{i} r{}) {end}) r{}", i - 1, own(i)),
-        _ => padding.clone().map(|k| format!("r{k}")).collect::<Vec<_>>().join(" "),
+        i if i < size - 1 => format!("((a{i} r{}) r{i}) r{}", i - 1, own(i)),
+        i if i < size => format!("((a{i} r{}) {end}) r{}", i - 1, own(i)),
+        i if i == size => padding.clone().map(|k| format!("r{k}")).collect::<Vec<_>>().join(" "),
+        _ => format!("r{}", padding.end - 1),
     })
+}
+
+/// A gadget for a copy at the highest order with some 500 wires, of which nearly each carries many masks. Each line adds its
+/// share and nearly all masks, every two lines the same ones, always in another order; so few
+/// wires add up to a sum without masks, as neighbours on a line do. NI holds, since a share stands in the wires of one line alone.
+pub fn dense(random: &mut Random) -> Description {
+    // Of the wires 64 are masks and 8 are shares; all others are additions, on each line as many as masks.
+    let added = (MAX_WIRES - MAX_MASKS - MAX_SHARES) / MAX_SHARES;
+    let mut masks: Vec<usize> = (0..MAX_MASKS).collect();
+    let mut lines = Vec::new();
+    for i in 0..MAX_SHARES {
+        match i % 2 {
+            0 => random.shuffle(&mut masks),
+            _ => random.shuffle(&mut masks[..added]),
+        }
+        let added = masks[..added].iter().map(|k| format!(" r{k}"));
+        lines.push(format!("a{i}{}", added.collect::<String>()));
+    }
+    Description {
+        order: MAX_SHARES - 1,
+        masks: MAX_MASKS,
+        lines,
+    }
 }
 
 /// A gadget of an order from 1 to `most`, right or nearly so.

@@ -4,6 +4,7 @@ pub mod arguments;
 pub mod calls;
 pub mod changes;
 pub mod damage;
+pub mod far;
 pub mod files;
 pub mod gadgets;
 pub mod known;

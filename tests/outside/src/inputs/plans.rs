@@ -79,8 +79,7 @@ fn of_report(random: &mut Random) -> Vec<Case> {
         call: case.call,
         text: match case.expected {
             Expected::Reason("standard input", _) => None,
-            Expected::Report(text) | Expected::Late(text, _) | Expected::Told(text, _) => Some(text),
-            Expected::Long(text) | Expected::Reason(_, text) => Some(text),
+            expected => Some(expected.text().to_vec()),
         },
     };
     runs::all(random).into_iter().map(case).collect()

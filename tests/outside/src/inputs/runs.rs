@@ -1,23 +1,23 @@
 //! Runs of the program `report`: texts in every way in which a text may come, inputs that can not be read, outputs that
 //! can not be written, and texts for its notes, which standard error may not take.
 
-use super::calls::show_text;
 use super::damage::damaged;
+use super::far;
 use super::files;
-use super::gadgets::{self, Cross, End};
+use super::gadgets::{self, End};
 use super::noted::{self, broken_at_once};
 use super::sums;
 use super::texts::sound;
 use super::words;
 use crate::child::{Call, Error, Input, Output};
-use crate::model::plan::in_all;
 use crate::model::reading::MAX_TEXT_BYTES;
 use crate::model::records::MAX_WIRES;
 use crate::model::report::report;
 use crate::model::sets::MAX_SIZE;
-use crate::model::sizes::Size;
 use crate::passes::examples::{A, B};
 use crate::random::Random;
+use std::collections::BTreeSet;
+use std::ffi::OsString;
 use std::path::PathBuf;
 
 const DRAWN: usize = 400;
@@ -27,21 +27,14 @@ const MOST_SETS_OF_DRAWN: u64 = 20_000;
 /// so that the sets stay below 3 million of a size.
 const LATE: [(usize, usize); 5] = [(6, 2), (5, 11), (4, 14), (3, 17), (2, 20)];
 
-/// A verdict that looks at so many sets does not end in the second that it is given: at a nanosecond a set, which no
-/// search is known to reach, it would take ten.
-const LEAST_OF_LONG: u64 = 10_000_000_000;
-
 /// What the program has to print, and to say on standard error.
 pub enum Expected {
     /// The report on this text, and its notes.
     Report(Vec<u8>),
     /// The report on this text, whose first breaking set has so many wires under either notion, and its notes.
     Late(Vec<u8>, usize),
-    /// This report on this text, of more sets than the model can look at, and its notes.
-    Told(Vec<u8>, String),
-    /// Nothing, and no end either: a verdict on this text that looks at every set, `LEAST_OF_LONG` or more, takes far
-    /// longer than the program is given. One that ends has not looked. That it is long is said, and so is what the
-    /// function is not.
+    /// Nothing, and no end either: any verdict on this text, a directed one too, takes far longer than the program is
+    /// given. One that ends has not looked. That it is long is said, and so is what the function is not.
     Long(Vec<u8>),
     /// Nothing, and on standard error a line that names this file, which can not be read or written. What there is to
     /// say on this text before its report stands before that.
@@ -53,12 +46,21 @@ pub struct Case {
     pub expected: Expected,
 }
 
+impl Expected {
+    /// The text that the program is lent, of which it may not be able to read anything.
+    pub fn text(&self) -> &[u8] {
+        match self {
+            Expected::Report(text) | Expected::Late(text, _) | Expected::Long(text) | Expected::Reason(_, text) => text,
+        }
+    }
+}
+
 pub fn all(random: &mut Random) -> Vec<Case> {
     let noted = [noted::texts(), sums::texts(), words::texts()].concat();
     let noted = noted.iter().map(|text| at_once(text)).collect();
     [
         late(),
-        long(),
+        of_many_sets(random),
         of_files(),
         of_ways(),
         noted,
@@ -88,42 +90,31 @@ fn late() -> Vec<Case> {
     cases
 }
 
-/// Gadgets that hold, of so many sets that nobody waits, one for the product and one for a copy but for some symbols:
-/// both notes have to be there before a verdict is begun.
-fn long() -> Vec<Case> {
-    let mut product = gadgets::multiplication(MAX_SIZE, |_, _| Cross::MaskFirst);
-    product.lines[MAX_SIZE] = product.lines[MAX_SIZE].replace("s77 ", "");
-    let texts = [product, gadgets::late(MAX_SIZE, End::Mask, 50)].map(|gadget| gadget.text());
-    let case = |text: Vec<u8>| {
-        assert!(is_long(&text), "too few sets to be long: {}", show_text(&text));
-        Case {
-            call: at_once(&text).call,
-            expected: Expected::Long(text),
-        }
-    };
-    texts.map(case).into()
+/// Texts of so many sets that nobody looks at each.
+fn of_many_sets(random: &mut Random) -> Vec<Case> {
+    let late = far::late().into_iter().map(|(text, size)| Case {
+        call: at_once(&text).call,
+        expected: Expected::Late(text, size),
+    });
+    let others = far::texts(random).into_iter().map(|text| at_once(&text));
+    let long = far::long(random).map(|text| Case {
+        call: at_once(&text).call,
+        expected: Expected::Long(text),
+    });
+    late.chain(others).chain(long).collect()
 }
 
-/// Whether a verdict that looks at every set of a text that can be read would not end while the program runs, where it
-/// holds.
-fn is_long(text: &[u8]) -> bool {
-    Size::of(text).is_ok_and(|size| in_all(&size) >= LEAST_OF_LONG)
-}
-
-/// Every text of the list, as a file. The model looks at every set; where these are too many, the report is that which
-/// was worked out for the list.
+/// Every text of the list and every gadget that is not there, as a file.
 fn of_files() -> Vec<Case> {
-    let case = |path: PathBuf| {
-        let text = files::read(&path);
-        Case {
-            expected: match is_long(&text) {
-                true => Expected::Told(text, files::report_on(&path)),
-                false => Expected::Report(text),
-            },
-            call: Call::on(Input::File(path)),
-        }
+    let mut paths = files::listed();
+    let names: BTreeSet<OsString> = paths.iter().filter_map(|path| Some(path.file_name()?.into())).collect();
+    let is_listed = |path: &PathBuf| path.file_name().is_some_and(|name| names.contains(name));
+    paths.extend(files::gadgets().into_iter().filter(|path| !is_listed(path)));
+    let case = |path: PathBuf| Case {
+        expected: Expected::Report(files::read(&path)),
+        call: Call::on(Input::File(path)),
     };
-    files::listed().into_iter().map(case).collect()
+    paths.into_iter().map(case).collect()
 }
 
 /// Texts around the limits of length and of bytes, at once, in pieces, without an end, and from a system that is odd.

@@ -7,15 +7,15 @@ use super::{noted, words};
 use crate::child::{run_all, Error, Input, Outcome};
 use crate::faults;
 use crate::inputs::calls::show_text;
+use crate::inputs::far::report_or_far;
 use crate::inputs::runs::{self, Case, Expected};
 use crate::model::notes::{Notes, RIGHT};
 use crate::model::reading::MAX_TEXT_BYTES;
-use crate::model::report::report;
 use crate::random::Random;
 use crate::tally::Tally;
 use std::time::Duration;
 
-const PROGRAM: &str = "target/bin/report";
+pub const PROGRAM: &str = "target/bin/report";
 /// So many children run at a time.
 const AT_A_TIME: usize = 2;
 /// A child that takes longer hangs. The longest verdicts here are a matter of seconds, on a slow machine too.
@@ -27,11 +27,12 @@ const LIMIT_OF_LONG: Duration = Duration::from_secs(1);
 /// So many bytes of what a child printed or said are shown where it is wrong.
 const MOST_SHOWN: usize = 600;
 
-const KINDS: [&str; 13] = [
+const KINDS: [&str; 14] = [
     "holds",
+    "holds, far",
     "broken",
     "broken late",
-    "told",
+    "broken late, far",
     "refused",
     "long",
     "long, two notes",
@@ -46,6 +47,8 @@ const KINDS: [&str; 13] = [
 /// What the model says of a case: the report, or nothing where there is to be none, and the notes.
 struct Model {
     report: String,
+    /// Whether a verdict is the directed search's, since the sets before its first breaking one are too many.
+    is_far: bool,
     notes: Notes,
 }
 
@@ -67,7 +70,7 @@ pub fn run(random: &mut Random, tally: &mut Tally) {
         if let Err(why) = judge(case, &model, &outcome) {
             tally.differs(|| format!("{PROGRAM}: {why}\n    {}", case.show()));
         }
-        if let Expected::Report(text) | Expected::Late(text, _) | Expected::Told(text, _) = &case.expected {
+        if let Expected::Report(text) | Expected::Late(text, _) = &case.expected {
             compare_with_faults(tally, case, text, &model.report, &outcome);
             if case.call.error == Error::Pipe {
                 noted::count(tally, &model.notes);
@@ -112,17 +115,17 @@ impl Case {
     }
 
     fn model(&self) -> Model {
-        let (text, report) = match &self.expected {
-            Expected::Report(text) | Expected::Late(text, _) => (text, report(text, u64::MAX).unwrap_or_default()),
-            Expected::Told(text, report) => (text, report.clone()),
-            Expected::Long(text) | Expected::Reason(_, text) => (text, String::new()),
+        let text = self.expected.text();
+        let (report, is_far) = match self.expected {
+            Expected::Report(_) | Expected::Late(..) => report_or_far(text, u64::MAX).unwrap_or_default(),
+            Expected::Long(_) | Expected::Reason(..) => (String::new(), false),
         };
         let notes = RIGHT.notes(text, &report);
         if let Expected::Long(_) = self.expected {
             let says = String::from_utf8_lossy(&notes.before).contains(" sets to look at");
             assert!(says, "a long check is said to be one: {}", self.show());
         }
-        Model { report, notes }
+        Model { report, is_far, notes }
     }
 
     /// The library that makes the system odd says first that it is there.
@@ -141,7 +144,7 @@ impl Case {
     }
 }
 
-fn kind(case: &Case, Model { report, notes }: &Model) -> &'static str {
+fn kind(case: &Case, Model { report, is_far, notes }: &Model) -> &'static str {
     let two_before = notes.before.split_inclusive(|byte| *byte == b'\n').count() == 2;
     match (&case.expected, case.call.error) {
         (_, Error::Full | Error::Closed) => "no standard error",
@@ -152,10 +155,11 @@ fn kind(case: &Case, Model { report, notes }: &Model) -> &'static str {
         (Expected::Reason(..), _) => "no output",
         (Expected::Long(_), _) if two_before => "long, two notes",
         (Expected::Long(_), _) => "long",
+        (Expected::Late(..), _) if *is_far => "broken late, far",
         (Expected::Late(..), _) => "broken late",
-        (Expected::Told(..), _) => "told",
         (Expected::Report(_), _) if report.starts_with("refused") => "refused",
         (Expected::Report(_), _) if report.contains("broken") => "broken",
+        (Expected::Report(_), _) if *is_far => "holds, far",
         (Expected::Report(_), _) => "holds",
     }
 }
@@ -195,7 +199,7 @@ fn judge(case: &Case, model: &Model, outcome: &Outcome) -> Result<(), String> {
     let [printed, notes] = wanted(case.call.error, &model.report, &model.notes);
     let before = model.notes.before.as_slice();
     let (right, wanted) = match &case.expected {
-        Expected::Report(_) | Expected::Late(..) | Expected::Told(..) => (
+        Expected::Report(_) | Expected::Late(..) => (
             ended && outcome.printed == printed && said == notes,
             format!("{}, {}", show_some(&printed), show_some(&notes)),
         ),
