@@ -1,16 +1,20 @@
-//! The directed verdict in time: what the gadgets' folder has gets both verdicts within seconds, at its own order; and
-//! where nearly every set is left to look at, it does not take much longer than the other verdict. No call is waited for
-//! without end, and each has no more stack than the header asks for.
+//! The directed verdict in time: what the gadgets' folder has gets both verdicts within seconds, at its own order, and a
+//! whole report, by the library and by the program; and where nearly every set is left to look at, a directed verdict
+//! takes some times as long as the other one, and no longer. No call is waited for without end, and each has no more
+//! stack than the header asks for.
 
-use super::stack::STACK_BYTES;
+use super::programs::{show_some, PROGRAM};
+use super::stack::{REPORT_BYTES, STACK_BYTES};
+use crate::child::{Call, Input};
 use crate::engine;
 use crate::inputs::calls::TableCall;
 use crate::inputs::files;
 use crate::inputs::tables::{record, Table};
 use crate::model::breaking::{NI, SNI};
-use crate::model::found_by_verdict;
 use crate::model::records::{Record, MAX_MASKS, MAX_SHARES, MAX_TABLE_BYTES};
+use crate::model::report::{opening, verdict};
 use crate::model::sets::MAX_SIZE;
+use crate::model::{self, found_by_verdict};
 use crate::random::Random;
 use crate::reply::Reply;
 use crate::tally::Tally;
@@ -18,7 +22,7 @@ use std::sync::mpsc::channel;
 use std::thread::Builder;
 use std::time::{Duration, Instant};
 
-/// For one verdict, on a slow machine too.
+/// For one verdict or one report, on a slow machine too.
 const LIMIT: Duration = Duration::from_secs(20);
 
 /// Every text of the gadgets' folder, with the first breaking set for NI and for SNI, none where it holds. The scope has
@@ -48,13 +52,15 @@ const MORE: Duration = Duration::from_secs(2);
 
 pub fn run(random: &mut Random, tally: &mut Tally) {
     let Some(longest) = gadgets(tally) else { return };
+    let Some(reported) = reports(tally) else { return };
     let Some(factor) = dense(random, tally) else { return };
     tally.say(format!(
         "quick           both verdicts of {} gadgets at their own orders, the longest, {}, {:.0} ms; where most sets are \
-         left, {factor:.1} times as long as the other verdict at most",
+         left, {factor:.1} times as long as the other verdict at most; their reports, the longest {:.0} ms",
         GADGETS.len(),
         longest.0,
-        1e3 * longest.1.as_secs_f64()
+        1e3 * longest.1.as_secs_f64(),
+        1e3 * reported.as_secs_f64()
     ));
 }
 
@@ -107,6 +113,43 @@ fn gadgets(tally: &mut Tally) -> Option<(&'static str, Duration)> {
     Some(longest)
 }
 
+/// The longest time that the program took for a gadget; none where it or the library took too long. What has to be
+/// printed is known, and does not rest on a search of the model's.
+fn reports(tally: &mut Tally) -> Option<Duration> {
+    let mut longest = Duration::ZERO;
+    for (path, (name, first)) in files::gadgets().into_iter().zip(GADGETS) {
+        let text = files::read(&path);
+        let wanted = known_report(&text, first);
+        let start = Instant::now();
+        let outcome = Call::on(Input::File(path)).run(PROGRAM, LIMIT);
+        longest = longest.max(start.elapsed());
+        let by_library = within(LIMIT, move || engine::report_text(&text, REPORT_BYTES));
+        let (Some(_), Some((reply, _))) = (outcome.status, by_library) else {
+            tally.differs(|| format!("quick: {name}: no report in {LIMIT:?}"));
+            return None;
+        };
+        if outcome.printed != wanted.as_bytes() {
+            let printed = show_some(&outcome.printed);
+            tally.differs(|| format!("quick: {name}\n    known:   {wanted:?}\n    program: {printed}"));
+        }
+        if reply != model::report_text(&wanted, REPORT_BYTES) {
+            tally.differs(|| format!("quick: {name}\n    known:   {wanted:?}\n    library: {reply}"));
+        }
+    }
+    Some(longest)
+}
+
+/// The report on a text with these first breaking sets.
+fn known_report(text: &[u8], first: [&[u16]; 2]) -> String {
+    let (mut report, reading) = opening(text);
+    let wires = reading.expect("a gadget can be read").wires;
+    for (notion, name, set) in [(NI, "NI", first[0]), (SNI, "SNI", first[1])] {
+        let set = (!set.is_empty()).then_some(set);
+        report += &format!("{name}{}\n", verdict(&wires, notion, set));
+    }
+    report
+}
+
 /// How many times as long as the other verdict it took at most; none where it took too long.
 fn dense(random: &mut Random, tally: &mut Tally) -> Option<f64> {
     let mut most: f64 = 0.0;
@@ -141,12 +184,17 @@ fn dense(random: &mut Random, tally: &mut Tally) -> Option<f64> {
     Some(most)
 }
 
-/// Tables that hold, since no wire has more than one share, with masks in many wires each: drawn bits in all masks, in a
-/// few, a mask that stands in all wires, and a mask in each half of them.
+/// Tables that hold, since no wire has more than one share, with masks in many wires each: drawn bits in all masks, most
+/// of them there, drawn bits in a few, a mask that stands in all wires, and a mask in each half of them.
 fn dense_tables(random: &mut Random) -> Vec<Table> {
     let half = u64::MAX >> (MAX_MASKS / 2);
     let mut masks = Vec::new();
     masks.push((0..WIRES_OF_DENSE).map(|_| random.next()).collect::<Vec<u64>>());
+    masks.push(
+        (0..WIRES_OF_DENSE)
+            .map(|_| random.next() | random.next() | random.next())
+            .collect(),
+    );
     masks.push(
         (0..WIRES_OF_DENSE)
             .map(|_| random.next() & random.next() & half)
