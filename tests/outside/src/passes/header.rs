@@ -25,7 +25,7 @@ const EXPORTED: &str = "pub extern \"C\" fn ";
 const BELOW: [&str; 5] = [
     "crates/set_calls/src",
     "crates/table_calls/src",
-    "crates/directed_calls/src",
+    "crates/verdict_calls/src",
     "crates/text_calls/src",
     "crates/size_calls/src",
 ];
