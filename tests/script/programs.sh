@@ -122,8 +122,24 @@ expect 'standard output without a reader' 2 0 '' 'report: standard output: ?*'
 call "$script" isw-1.txt >&6 2>&6
 expect 'both without a reader' 2 0 '' ''
 try 'a folder on standard input' 2 0 '' 'report: standard input: ?*' "$script" < /
-# it would take days, and is ended here
-PATH=$path timeout 20 "$script" figure-8.txt > "$room/out" 2> "$room/err" &
-wait_for grep -q 'sets to look at' "$room/err" || complain 'figure 8' 'that it takes long is not said beforehand'
+try 'figure 8' 0 0 'order 7 shares 8 masks 24 wires 180
+function product
+NI holds
+SNI holds' 'report: up to 2248742599782 sets to look at, at worst some * hours, *' "$script" figure-8.txt
+# each line adds most masks, always in another order: no search is done soon, and this one is ended here
+{
+    printf 'ORDER = 7\nMASKS = [r0'
+    for k in $(seq 63); do printf ', r%s' "$k"; done
+    printf ']\n'
+    for i in $(seq 0 7); do
+        printf 'a%s' "$i"
+        for k in $(seq 55); do printf ' r%s' $((k * (2 * i + 3) % 64)); done
+        echo
+    done
+} > dense.txt
+PATH=$path timeout 20 "$script" dense.txt > "$room/out" 2> "$room/err" &
+wait_for grep -q 'sets to look at' "$room/err" || complain 'a long check' 'that it takes long is not said beforehand'
+sleep 0.5
 { kill "$!" && wait "$!" || :; } 2> /dev/null
-expect 'figure 8' none 0 '' 'report: up to * sets to look at*'
+expect 'a long check' none 0 '' 'report: function other: *
+report: up to * sets to look at, at worst some * days, *'
