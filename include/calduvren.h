@@ -33,12 +33,13 @@
  *   their offset first), and nothing else is refused. Their names stand below, CALDUVREN_REFUSED_...
  * - With status 0 it writes its answer through the pointers. A number that is named below as written is written, and
  *   no other is touched; of a lent buffer nothing is touched past what is written.
- * - Every number may have any value and every buffer any contents. A call always returns, but nothing interrupts it: a
- *   verdict and a range check take 1.5 to 6 nanoseconds for each set that they look at, and a verdict that finds no
- *   breaking set looks at every set of up to as many wires as the order (of 512 wires, months at order 7).
+ * - Every number may have any value and every buffer any contents. A call always returns, but nothing interrupts it:
+ *   calduvren_verdict and a range check take 1.5 to 6 nanoseconds for each set that they look at, and a verdict that
+ *   finds no breaking set looks at every set of up to as many wires as the order (of 512 wires, months at order 7).
  *   calduvren_check_size tells beforehand how many these are, from a text alone; calduvren_set_count does so from a
  *   number of wires, and calduvren_job divides them for range checks. calduvren_directed_verdict gives the same verdict
- *   and looks at few of these sets where the table is that of a gadget; so does a report.
+ *   and looks at few of these sets where the table is that of a gadget, and so does a report; where most wires carry most
+ *   masks they take longer than calduvren_verdict.
  * - `yes`, `holds` and `clean` are 1 where the answer is good and 0 where it is not: a caller that sets them to 0
  *   beforehand takes no refusal for a good answer. A table of length 0 is a table of no wires, and holds.
  *
@@ -190,9 +191,9 @@ calduvren_status calduvren_text_part(const uint8_t *text, size_t text_length, co
 
 /*
  * The size of a check, from a text alone, before anything is run: how many wires the text has, how many bytes their
- * table takes, and how many sets of each size a verdict at the text's order looks at where it holds. A report looks at
- * as many again, since it gives two verdicts. The text is read as by calduvren_read_text, but no table is lent, so none
- * is too short.
+ * table takes, and how many sets of each size there are, which is what calduvren_verdict looks at where the text's order
+ * holds. calduvren_directed_verdict, and a report for each of its two verdicts, mostly look at far fewer. The text is
+ * read as by calduvren_read_text, but no table is lent, so none is too short.
  *
  * Written with status 0: order, shares, masks and wires, as calduvren_read_text writes them; bytes, which is 24 * wires,
  * the length of a table with just enough room; and the first `order` elements of sets: sets[k - 1] is how many sets of k
@@ -258,9 +259,13 @@ calduvren_status calduvren_verdict(const uint8_t *table, size_t table_length, si
  * breaking set and the same refusals in the same order. Only the search is another. It starts at a wire and goes on only
  * with wires that carry a mask which is left in the sum so far: as long as no smaller set breaks, a set that can be cut
  * into two parts whose sums have no mask breaks nothing either. In a gadget a mask stands in few of the wires, so few
- * sets are left to look at: for a multiplication at order 7 this takes a second at most, where calduvren_verdict takes
- * hours. Where every wire carries many masks, most sets are left; it then takes about as long as calduvren_verdict takes
- * for as many wires where the notion holds, and not much longer.
+ * sets are left to look at: for a multiplication at order 7 this takes 0.1 seconds or less, where calduvren_verdict
+ * takes hours.
+ *
+ * It is not always the faster one. Where most wires carry most masks, most sets are left and each takes longer: up to
+ * some ten times the time of calduvren_verdict where the notion holds (measured with each of 64 masks in seven of eight
+ * wires: 4 to 5 times for 60 wires at order 5, 9 times for 16 wires at order 7). Where the notion is broken,
+ * calduvren_verdict ends at the first set; this one goes on until no set of that size can have a lower rank.
  *
  * Written: holds, 1 or 0. Where it is 0 also size, and the wire numbers of the first breaking set in rising size and
  * rank, rising, in the first `size` elements of set. calduvren_verdict writes the very same.

@@ -21,12 +21,8 @@ pub fn gadgets() -> Vec<PathBuf> {
     gadgets
 }
 
-/// Every text of the list, where a word stands before each.
+/// Every text of the list, a name on each line.
 pub fn listed() -> Vec<PathBuf> {
     let list = String::from_utf8(read(&Path::new(TEXTS).join("index"))).expect("the list is of plain letters");
-    let path = |line: &str| {
-        let (_, name) = line.split_once(' ').expect("a line is a word and a name");
-        Path::new(TEXTS).join(name)
-    };
-    list.lines().map(path).collect()
+    list.lines().map(|name| Path::new(TEXTS).join(name)).collect()
 }
