@@ -125,7 +125,7 @@ try 'a folder on standard input' 2 0 '' 'report: standard input: ?*' "$script" <
 try 'figure 8' 0 0 'order 7 shares 8 masks 24 wires 180
 function product
 NI holds
-SNI holds' 'report: up to 2248742599782 sets to look at, at worst some * hours, *' "$script" figure-8.txt
+SNI holds' 'report: up to 2248742599782 sets to look at, some * hours if each is visited, *' "$script" figure-8.txt
 # each line adds most masks, always in another order: no search is done soon, and this one is ended here
 {
     printf 'ORDER = 7\nMASKS = [r0'
@@ -142,4 +142,4 @@ wait_for grep -q 'sets to look at' "$room/err" || complain 'a long check' 'that 
 sleep 0.5
 { kill "$!" && wait "$!" || :; } 2> /dev/null
 expect 'a long check' none 0 '' 'report: function other: *
-report: up to * sets to look at, at worst some * days, *'
+report: up to * sets to look at, some * days if each is visited, *'

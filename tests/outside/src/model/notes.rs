@@ -134,9 +134,9 @@ impl Way {
             return Vec::new();
         }
         let time = (self.time)(sets / SETS_IN_A_SECOND);
-        let mostly = "a second where few wires share a mask";
+        let mostly = "if each is visited, mostly far less";
         let advice = "docs/GUIDE.md tells how to divide them over machines";
-        format!("report: up to {sets} sets to look at, at worst some {time}, {mostly}; {advice}\n").into_bytes()
+        format!("report: up to {sets} sets to look at, some {time} {mostly}; {advice}\n").into_bytes()
     }
 
     pub fn on_refusal(&self, text: &[u8], Fault { offset, cause }: Fault) -> Vec<u8> {
