@@ -50,13 +50,20 @@ const WIRES_OF_DENSE: usize = 40;
 const TIMES: u32 = 10;
 const MORE: Duration = Duration::from_secs(2);
 
+/// The gadget on which the two verdicts are held against each other: 134 million sets, and some 3,700 that grow to more.
+const EVERY_SET: &str = "isw-5.txt";
+/// At least so many times as long a visit to every set takes there: some thousand were measured.
+const LEAST_OF_WALK: f64 = 20.0;
+
 pub fn run(random: &mut Random, tally: &mut Tally) {
     let Some(longest) = gadgets(tally) else { return };
     let Some(reported) = reports(tally) else { return };
     let Some(factor) = dense(random, tally) else { return };
+    let Some(walked) = every_set(tally) else { return };
     tally.say(format!(
         "quick           both verdicts of {} gadgets at their own orders, the longest, {}, {:.0} ms; where most sets are \
-         left, {factor:.1} times as long as the other verdict at most; their reports, the longest {:.0} ms",
+         left, {factor:.1} times as long as the other verdict at most; {EVERY_SET}, of which that one visits every set, \
+         takes it {walked:.0} times as long; their reports, the longest {:.0} ms",
         GADGETS.len(),
         longest.0,
         1e3 * longest.1.as_secs_f64(),
@@ -148,6 +155,30 @@ fn known_report(text: &[u8], first: [&[u16]; 2]) -> String {
         report += &format!("{name}{}\n", verdict(&wires, notion, set));
     }
     report
+}
+
+/// How many times as long as the directed verdict the other one took on a gadget that holds: it visits every set, as the
+/// scope asks of it, and its answer alone would not show that. None where one took too long.
+fn every_set(tally: &mut Tally) -> Option<f64> {
+    let path = files::gadgets().into_iter().find(|path| path.ends_with(EVERY_SET))?;
+    let reply = engine::read_text(&files::read(&path), MAX_TABLE_BYTES);
+    let [Some(order), Some(shares), Some(masks), ..] = reply.numbers else {
+        panic!("{EVERY_SET} can be read")
+    };
+    let [order, shares, masks] = [order, shares, masks].map(|number| number as usize);
+    let table: Vec<u8> = reply.written.iter().map(|byte| *byte as u8).collect();
+    let (lent, numbers) = (table.clone(), [shares, masks, NI, order, MAX_SIZE]);
+    let by_walk = within(LIMIT, move || engine::verdict(&table, numbers));
+    let by_masks = within(LIMIT, move || engine::directed_verdict(&lent, numbers));
+    let (Some((_, walk)), Some((_, directed))) = (by_walk, by_masks) else {
+        tally.differs(|| format!("quick: {EVERY_SET}: no verdict in {LIMIT:?}"));
+        return None;
+    };
+    let factor = walk.as_secs_f64() / directed.as_secs_f64();
+    if factor < LEAST_OF_WALK {
+        tally.differs(|| format!("quick: {EVERY_SET}: {walk:?} for every set, {directed:?} for a directed verdict"));
+    }
+    Some(factor)
 }
 
 /// How many times as long as the other verdict it took at most; none where it took too long.
