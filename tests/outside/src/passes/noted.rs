@@ -27,10 +27,10 @@ const KINDS: [(&str, &str); 23] = [
     ("SNI", "report: SNI"),
     ("inner", ", inner: "),
     ("outer", ", outer: "),
-    ("seconds", " seconds, a second where"),
-    ("minutes", " minutes, a second where"),
-    ("hours", " hours, a second where"),
-    ("days", " days, a second where"),
+    ("seconds", " seconds if each is visited"),
+    ("minutes", " minutes if each is visited"),
+    ("hours", " hours if each is visited"),
+    ("days", " days if each is visited"),
 ];
 
 /// Each function with a kind of symbols in which another may differ from it. With a product it is compared with the
