@@ -68,7 +68,7 @@ pub extern "C" fn calduvren_report_text(text: &[u8], buffer: &mut [u8], length: 
     ensures { λ r. ⌜ Kept r (now (length .exit) ∷ []) (now (length .entry) ∷ []) (now (buffer .exit)) (now (buffer .entry)) ⌝ }
     ensures { λ r. ⌜ ReportSays r (now (length .exit)) (now (text .entry)) (now (buffer .entry)) (now (buffer .exit)) ⌝ }
 {
-    text_calls::report_text(text, buffer, length)
+    page_calls::report_text(text, buffer, length)
 }
 
 // Writes the multiplication of Ishai, Sahai and Wagner at an order to the start of a buffer.
@@ -78,5 +78,5 @@ pub extern "C" fn calduvren_isw_text(order: usize, text: &mut [u8], length: &mut
     ensures { λ r. ⌜ Kept r (now (length .exit) ∷ []) (now (length .entry) ∷ []) (now (text .exit)) (now (text .entry)) ⌝ }
     ensures { λ r. ⌜ IswTextSays r (now (length .exit)) order (now (text .entry)) (now (text .exit)) ⌝ }
 {
-    text_calls::isw_text(order, text, length)
+    page_calls::isw_text(order, text, length)
 }

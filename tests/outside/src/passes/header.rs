@@ -22,11 +22,12 @@ pub const HEADER: &str = "include/calduvren.h";
 const CRATE: &str = "crates/calduvren/src";
 const EXPORTED: &str = "pub extern \"C\" fn ";
 /// Where the work of the exported functions is done, by functions of the same names without this word before them.
-const BELOW: [&str; 5] = [
+const BELOW: [&str; 6] = [
     "crates/set_calls/src",
     "crates/table_calls/src",
     "crates/verdict_calls/src",
     "crates/text_calls/src",
+    "crates/page_calls/src",
     "crates/size_calls/src",
 ];
 const BEFORE: &str = "calduvren_";

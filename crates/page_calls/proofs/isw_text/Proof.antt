@@ -1,9 +1,9 @@
--- `text_calls::isw_text` meets its contract: each answer tells its number or its values, which mean what the answer means.
+-- `page_calls::isw_text` meets its contract: each answer tells its number or its values, which mean what the answer means.
 -- Assumes nothing.
 use borrow.Author.Needs.{needs}
 use Rattle.call_answers.proofs.Writing.{isw-gave, isw-refused}
-use Rattle.text_calls.proofs.isw_text.Statement.{statement}
-use Rattle.text_calls.proofs.isw_text.Tie as tie
+use Rattle.page_calls.proofs.isw_text.Statement.{statement}
+use Rattle.page_calls.proofs.isw_text.Tie as tie
 
 isw-text-requires : tie.Need-isw-text-requires
 isw-text-requires c κs = search needs

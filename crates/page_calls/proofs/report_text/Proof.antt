@@ -1,9 +1,9 @@
--- `text_calls::report_text` meets its contract: each answer tells its number or its values, which mean what the answer means.
+-- `page_calls::report_text` meets its contract: each answer tells its number or its values, which mean what the answer means.
 -- Assumes nothing.
 use borrow.Author.Needs.{needs}
 use Rattle.call_answers.proofs.Reading.{report-gave, report-refused}
-use Rattle.text_calls.proofs.report_text.Statement.{statement}
-use Rattle.text_calls.proofs.report_text.Tie as tie
+use Rattle.page_calls.proofs.report_text.Statement.{statement}
+use Rattle.page_calls.proofs.report_text.Tie as tie
 
 report-requires : tie.Need-report-requires
 report-requires c κs = search needs
