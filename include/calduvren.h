@@ -6,8 +6,8 @@
  * A gadget computes on two operands, a and b, each a secret bit split into shares, and adds random bits, the masks.
  * A watcher reads a few of its wires. The functions below read a gadget's description into a table of its wires, tell
  * beforehand how large a check of it is, check its function, say whether it is NI and SNI at an order and show the first
- * breaking set, tell which operand a set gives away, number the sets of wires and divide the search over machines. One
- * writes a description: the multiplication of Ishai, Sahai and Wagner.
+ * breaking set, tell which operand a set gives away, number the sets of wires, divide the search over machines and pool
+ * what the machines report. One writes a description: the multiplication of Ishai, Sahai and Wagner.
  *
  * Breaking sets
  *
@@ -40,8 +40,8 @@
  *   number of wires, and calduvren_job divides them for range checks. calduvren_directed_verdict gives the same verdict
  *   and looks at few of these sets where the table is that of a gadget, and so does a report; where most wires carry most
  *   masks they take longer than calduvren_verdict.
- * - `yes`, `holds` and `clean` are 1 where the answer is good and 0 where it is not: a caller that sets them to 0
- *   beforehand takes no refusal for a good answer. A table of length 0 is a table of no wires, and holds.
+ * - `yes`, `holds` and `clean` are 1 where the answer is good and 0 where it is not, and so is `answer` where a pool holds:
+ *   a caller that sets them to 0 beforehand takes no refusal for a good answer. A table of length 0 is a table of no wires, and holds.
  *
  * What a caller owes
  *
@@ -66,12 +66,12 @@ extern "C" {
 #endif
 
 /*
- * The version, for #if: major * 10000 + minor * 100 + patch, so 20300 is 2.3.0. A version that adds a function raises
+ * The version, for #if: major * 10000 + minor * 100 + patch, so 20400 is 2.4.0. A version that adds a function raises
  * the minor number, one that changes what a call with the same arguments answers raises the major one, and any other
  * the patch. Header and library belong together: the library tells no version of its own, so keep it with the header
  * that it came with.
  */
-#define CALDUVREN_VERSION 20300
+#define CALDUVREN_VERSION 20400
 
 #define CALDUVREN_MAX_TEXT_BYTES 4096
 #define CALDUVREN_RECORD_BYTES 24
@@ -84,6 +84,7 @@ extern "C" {
 #define CALDUVREN_MAX_JOBS 65536
 #define CALDUVREN_MAX_REPORT_BYTES 512
 #define CALDUVREN_MAX_ISW_ORDER 7
+#define CALDUVREN_FILED_REPORT_BYTES 32
 #define CALDUVREN_STACK_BYTES 262144
 
 /* The notions. */
@@ -94,6 +95,11 @@ extern "C" {
 #define CALDUVREN_PRODUCT 1
 #define CALDUVREN_SUM 2
 #define CALDUVREN_COPY 3
+
+/* The answers of calduvren_pool. 0 is none of them. */
+#define CALDUVREN_POOL_HOLDS 1
+#define CALDUVREN_POOL_BROKEN 2
+#define CALDUVREN_POOL_UNCOVERED 3
 
 /*
  * The statuses. CALDUVREN_OK says that the call was answered, not that the answer is good: `yes`, `holds` and `clean`
@@ -124,6 +130,8 @@ extern "C" {
 #define CALDUVREN_REFUSED_TEXT_PART 22        /* the wire's part lies outside the text */
 #define CALDUVREN_REFUSED_ISW_ORDER 23        /* order of the multiplication not 1 to 7 */
 #define CALDUVREN_REFUSED_ISW_ROOM 24         /* the multiplication's text is longer than the buffer lent for it */
+#define CALDUVREN_REFUSED_FILED_REPORT 25     /* reports no multiple of 32 bytes, or one of them not of the pool's form */
+#define CALDUVREN_REFUSED_FIND 26             /* a report's found rank is not a breaking set */
 
 /* CALDUVREN_OK, or the number of a refusal. */
 typedef uint64_t calduvren_status;
@@ -302,6 +310,60 @@ calduvren_status calduvren_range_check(const uint8_t *table, size_t table_length
                                        size_t notion, size_t size, uint64_t from, uint64_t to,
                                        uint16_t *set, size_t set_length,
                                        uint64_t *clean, size_t *found, uint64_t *rank);
+
+/*
+ * Writes the report of a range check, for calduvren_pool: what was checked, and what calduvren_range_check answered. Give
+ * it `clean` and `rank` as that call wrote them; where clean is 1, rank is not looked at. A report is 32 bytes, numbers
+ * little-endian:
+ *   0         the notion
+ *   1         the size
+ *   2 to 7    filling, 0
+ *   8 to 15   from
+ *   16 to 23  to
+ *   24 to 31  the found rank; all ones bits where the ranks are clean
+ *
+ * Written: all 32 bytes of report.
+ *
+ * Refusals:
+ *   25  report_length not 32, or numbers that stand in no report, whatever the table and the order: notion not 1 or 2,
+ *       size not 1 to 7, from above to, to above the number of sets of that size of 512 wires, clean over 1, or clean 0
+ *       and rank below from or not below to
+ */
+calduvren_status calduvren_filed_report(size_t notion, size_t size, uint64_t from, uint64_t to,
+                                        uint64_t clean, uint64_t rank, uint8_t *report, size_t report_length);
+
+/*
+ * What the reports of many machines come to: a list of reports as calduvren_filed_report writes them, one after the
+ * other, in any order. Ranks may be covered more than once, and reports may stand in the list more than once.
+ *
+ * answer is
+ *   CALDUVREN_POOL_BROKEN     a report has a found rank: size and rank are those of the smallest size and then the lowest
+ *                             rank found. The set there breaks the notion (calduvren_set_from_rank gives its wires).
+ *   CALDUVREN_POOL_UNCOVERED  no report has one, and some ranks are in no report: size and rank are the first such rank of
+ *                             the first such size, from 1 to the order. It says nothing of the notion.
+ *   CALDUVREN_POOL_HOLDS      no report has one, and every rank of every size from 1 to the order is in a report.
+ * Every found rank is checked again, a clean report is believed: where all of these are true, of this table, holds and
+ * broken are calduvren_verdict's answers, though the set that it shows may be an earlier one. A report does not name its
+ * table: keep those of different tables apart.
+ *
+ * The list may have any length. Reports of each size in rising order are pooled in time linear in the list, other orders
+ * take longer (65,536 reports of a size, in any order tried, well under a second).
+ *
+ * Written: answer. Where it is not CALDUVREN_POOL_HOLDS also size and rank.
+ *
+ * Refusals:
+ *   11  shares not 2 to 8, or masks over 64
+ *   12  table_length no multiple of 24, or over 12,288
+ *   13  a record with a bit beyond shares or masks, or byte 18 over 1
+ *   14  notion not 1 or 2
+ *   15  order not 1 to shares - 1
+ *   25  reports_length no multiple of 32, or a report with another notion, a size not 1 to order, filling that is not 0,
+ *       from above to, to above the number of sets of that size, or a found rank below from or not below to
+ *   26  a found rank whose set does not break the notion
+ */
+calduvren_status calduvren_pool(const uint8_t *table, size_t table_length, size_t shares, size_t masks,
+                                size_t notion, size_t order, const uint8_t *reports, size_t reports_length,
+                                uint64_t *answer, size_t *size, uint64_t *rank);
 
 /*
  * Which operand leaks: on how many shares of a, and on how many of b, the sum of a set's records depends, how many of
