@@ -20,7 +20,7 @@ use records::layout::wide;
 use records::sums::Sum;
 
 // Writes a number as so many bytes, the lowest first.
-fn write_number(table: &mut [u8], at: usize, size: usize, number: u64)
+pub fn write_number(table: &mut [u8], at: usize, size: usize, number: u64)
     requires { ⌜ at + size ≤ length (now table) ⌝ }
     ensures { λ _. ⌜ now (table .exit) ≡ sets (now (table .entry)) at (bytesOf size number) ⌝ }
 {
