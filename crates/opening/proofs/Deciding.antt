@@ -1,4 +1,5 @@
 -- All bits of a record, or the gadget's own: the code's test over all bits of a record finds the sets that the gadget's shares and masks give.
+--     decided              of a set
 --     searched-decided     among the sets of all sizes up to an order
 --     stretch-decided      among the sets at a range of ranks of one size
 use Prim.Native.Nat.{ℕ, suc, _-_}
@@ -30,7 +31,7 @@ module _ (table : List ℕ) (shares masks notion : ℕ) (kind : Notion) (o : Ope
   abbrev own : List ℕ → Bool
   own = isBreaking (notionOf notion) table shares masks
 
-  decided : (k : ℕ) (s : List ℕ) → isSet (wireCount table) k s ≡ true → wide s ≡ own s
+  pub decided : (k : ℕ) (s : List ℕ) → isSet (wireCount table) k s ≡ true → wide s ≡ own s
   unfolding isBreaking
   decided k s e =
       set-decided table shares masks (o .sound) kind s (is-set-inside table k s e)
