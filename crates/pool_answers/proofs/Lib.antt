@@ -1,0 +1,9 @@
+-- What follows from what the entries answer, for all that they accept.
+--     Conditions   which call gets which number
+--     Saying       what the pool's answers say of the reports
+--     Agreeing     what they say of the table, if every clean report is true
+--     Filing       what is filed, and that a pool takes it
+pub mod Conditions
+pub mod Saying
+pub mod Agreeing
+pub mod Filing
