@@ -13,7 +13,13 @@ use filed_reports::report_at;
 use limits::COUNTS;
 
 // Whether a report is of the notion, has a size from 1 to the order, no filling, bounds within the sets of that size, and its found rank between them.
-pub fn is_filed(report: Report, counts: &[u64; COUNTS], wires: usize, notion: usize, order: usize) -> bool
+pub fn is_filed(
+    report: Report,
+    counts: &[u64; COUNTS],
+    wires: usize,
+    notion: usize,
+    order: usize,
+) -> bool
     requires { ⌜ Counts (now counts) ⌝ }
     requires { ⌜ (wires ≤ maxWires) × (order ≤ maxSize) ⌝ }
     ensures { λ r. ⌜ r ≡ not (misfiled (binom wires) notion order report) ⌝ }
@@ -49,7 +55,13 @@ pub fn is_filed(report: Report, counts: &[u64; COUNTS], wires: usize, notion: us
 }
 
 // Whether every report of a list is.
-pub fn all_filed(reports: &[u8], counts: &[u64; COUNTS], wires: usize, notion: usize, order: usize) -> bool
+pub fn all_filed(
+    reports: &[u8],
+    counts: &[u64; COUNTS],
+    wires: usize,
+    notion: usize,
+    order: usize,
+) -> bool
     requires { ⌜ Counts (now counts) ⌝ }
     requires { ⌜ (wires ≤ maxWires) × (order ≤ maxSize) ⌝ }
     ensures { λ r. ⌜ r ≡ not (anyMisfiled (binom wires) notion order (now (reports .entry))) ⌝ }

@@ -66,10 +66,7 @@ pub fn filed_report(
     match answer {
         RangeAnswer::Refused(why) => FilingAnswer::Refused(Refusal::Misfiled),
         RangeAnswer::Clean => file(notion, size, from, to, CLEAN, report),
-        RangeAnswer::Found {
-            size: wires,
-            rank,
-        } => {
+        RangeAnswer::Found { size: wires, rank } => {
             if wires != size {
                 return FilingAnswer::Refused(Refusal::Misfiled);
             }

@@ -64,10 +64,16 @@ module _ (wires order : ℕ) (reports : List ℕ) where
           → NoPlace (binom wires) Uncovered order ⊎ ((size rank : ℕ) × FirstPlace (binom wires) Uncovered order size rank)
           → (l : List ℕ) × (pooled wires order reports ≡ values l)
       go (inr f) x = (_, first-place-is (binom wires) (reported reports) brokenTold order (f .0) (f .1) _ (f .2))
-      go (inl none) (inr u) = (_, no-place-is (binom wires) (reported reports) brokenTold order _ none
-          ∙ first-place-is (binom wires) Uncovered uncoveredTold order (u .0) (u .1) _ (u .2))
-      go (inl none) (inl whole) = (_, no-place-is (binom wires) (reported reports) brokenTold order _ none
-          ∙ no-place-is (binom wires) Uncovered uncoveredTold order _ whole)
+      go (inl none) (inr u) = (
+        _,
+        no-place-is (binom wires) (reported reports) brokenTold order _ none
+            ∙ first-place-is (binom wires) Uncovered uncoveredTold order (u .0) (u .1) _ (u .2),
+      )
+      go (inl none) (inl whole) = (
+        _,
+        no-place-is (binom wires) (reported reports) brokenTold order _ none
+            ∙ no-place-is (binom wires) Uncovered uncoveredTold order _ whole,
+      )
 
 module _ (table : List ℕ) (shares masks notion order : ℕ) (reports : List ℕ) where
   abbrev told : Told

@@ -178,8 +178,7 @@ module _ (table : List ℕ) (shares masks notion order : ℕ) (reports : List �
       go e (inr (inl m)) =
           let same = sym (m .4) ∙ e in
           let k : m .0 ≡ size = cc in
-          let r : m .1 ≡ rank = cc in
-          (
+          let r : m .1 ≡ rank = cc in (
             m .2,
             subst (λ (i : ℕ). FirstUncovered n order reports size i) r (subst (λ (i : ℕ). FirstUncovered n order reports i (m .1)) k (m .3)),
           )
