@@ -36,7 +36,7 @@ table-positive table-refusal.the-variants.TableLength = omega arith
 table-positive table-refusal.the-variants.RecordOutOfRange = omega arith
 table-positive table-refusal.the-variants.NoSuchFunction = omega arith
 
-verdict-positive : (why : Refusal) → 0 < refusalNumber why
+pub verdict-positive : (why : Refusal) → 0 < refusalNumber why
 verdict-positive (Refusal.Table why) = table-positive why
 verdict-positive Refusal.NoSuchNotion = omega arith
 verdict-positive Refusal.OrderOutOfRange = omega arith
