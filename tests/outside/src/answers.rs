@@ -1,6 +1,6 @@
 //! The entries and their answers: all that the scope gives each of them, and all of it has to be reached in a run.
 
-/// The fourteen entries, in the header's order.
+/// The sixteen entries, in the header's order.
 #[derive(Clone, Copy, PartialEq, Eq, PartialOrd, Ord, Debug)]
 pub enum Entry {
     ReadText,
@@ -10,6 +10,8 @@ pub enum Entry {
     Verdict,
     DirectedVerdict,
     RangeCheck,
+    FiledReport,
+    Pool,
     SetDependence,
     SetCount,
     SetFromRank,
@@ -24,7 +26,7 @@ pub type Answer = (u64, &'static str);
 
 /// The entries with their names and every answer that has to be reached, which is every one that the scope gives them.
 /// The refusals stand in the order in which they are tested; the header has to list them so too.
-pub const REQUIRED: [(Entry, &str, &[Answer]); 14] = [
+pub const REQUIRED: [(Entry, &str, &[Answer]); 16] = [
     (
         Entry::ReadText,
         "read_text",
@@ -127,6 +129,27 @@ pub const REQUIRED: [(Entry, &str, &[Answer]); 14] = [
             (17, ""),
             (16, ""),
             (18, ""),
+        ],
+    ),
+    (
+        Entry::FiledReport,
+        "filed_report",
+        &[(0, "clean"), (0, "found"), (25, "")],
+    ),
+    (
+        Entry::Pool,
+        "pool",
+        &[
+            (0, "holds"),
+            (0, "broken"),
+            (0, "uncovered"),
+            (11, ""),
+            (12, ""),
+            (13, ""),
+            (14, ""),
+            (15, ""),
+            (25, ""),
+            (26, ""),
         ],
     ),
     (

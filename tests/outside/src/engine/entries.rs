@@ -94,6 +94,29 @@ extern "C" {
         found: *mut usize,
         rank: *mut u64,
     ) -> u64;
+    pub fn calduvren_filed_report(
+        notion: usize,
+        size: usize,
+        from: u64,
+        to: u64,
+        clean: u64,
+        rank: u64,
+        report: *mut u8,
+        report_length: usize,
+    ) -> u64;
+    pub fn calduvren_pool(
+        table: *const u8,
+        table_length: usize,
+        shares: usize,
+        masks: usize,
+        notion: usize,
+        order: usize,
+        reports: *const u8,
+        reports_length: usize,
+        answer: *mut u64,
+        size: *mut usize,
+        rank: *mut u64,
+    ) -> u64;
     pub fn calduvren_set_dependence(
         table: *const u8,
         table_length: usize,

@@ -6,9 +6,11 @@ use std::sync::atomic::{AtomicU64, Ordering};
 
 const GUARD_BYTES: usize = 64;
 
-/// Every byte of the filling has its top bit set. No answer looks like it: a number is below 2^63, a wire number below
-/// 512, a report and a text are in ASCII, and the last byte of a record (the high byte of a length) is at most 16.
+/// Every byte of the filling has its top bit set and its lowest clear. No answer looks like it: a number is below 2^63,
+/// a wire number below 512, a report and a text are in ASCII, the last byte of a record (the high byte of a length) is
+/// at most 16, and that of a filed report is all ones or, as part of a rank below 2^56, 0.
 const FILLING_BITS: u64 = 0x8080_8080_8080_8080;
+const CLEAR_BITS: u64 = 0x0101_0101_0101_0101;
 
 /// The filling changes from call to call, so that a stray write of an equal byte is not hidden twice.
 static CALLS: AtomicU64 = AtomicU64::new(0);
@@ -96,7 +98,7 @@ impl Lent {
         self.end = start + piece.elements * piece.width;
         for index in self.block.len()..(self.end + GUARD_BYTES).div_ceil(8) {
             let mixed = (self.filling ^ index as u64).wrapping_mul(0x9E37_79B9_7F4A_7C15);
-            self.block.push(mixed | FILLING_BITS);
+            self.block.push((mixed | FILLING_BITS) & !CLEAR_BITS);
         }
         Piece { start, ..piece }
     }

@@ -1,4 +1,4 @@
-//! The engine under test: the fourteen functions of include/calduvren.h, each behind a safe wrapper that lends guarded
+//! The engine under test: the sixteen functions of include/calduvren.h, each behind a safe wrapper that lends guarded
 //! memory and gives back what the call left there.
 
 mod entries;
@@ -7,6 +7,7 @@ mod lent;
 pub use lent::Lent;
 
 use crate::answers::Entry;
+use crate::model::pool::Filing;
 use crate::reply::Reply;
 
 // In every wrapper the block outlives the call and has room for each piece, which is all that the calls ask for.
@@ -129,6 +130,44 @@ pub fn range_check(table: &[u8], [shares, masks, notion, size, set_length]: [usi
         )
     };
     lent.reply(status, &numbers, Some(set))
+}
+
+pub fn filed_report(filing: &Filing, report_length: usize) -> Reply {
+    let mut lent = Lent::new();
+    let report = lent.bytes(report_length);
+    let base = lent.base();
+    let Filing {
+        notion, size, from, to, ..
+    } = *filing;
+    let (clean, rank, report_at) = (filing.clean, filing.rank, report.at(base));
+    let status =
+        unsafe { entries::calduvren_filed_report(notion, size, from, to, clean, rank, report_at, report_length) };
+    lent.reply(status, &[], Some(report))
+}
+
+pub fn pool(table: &[u8], [shares, masks, notion, order]: [usize; 4], list: &[u8]) -> Reply {
+    let mut lent = Lent::new();
+    let (table, list) = (lent.bytes_with(table), lent.bytes_with(list));
+    let numbers = [(); 3].map(|()| lent.number());
+    let base = lent.base();
+    let (table_at, length, list_at, list_length) = (table.at(base), table.elements(), list.at(base), list.elements());
+    let (answer, size, rank) = (numbers[0].at(base), numbers[1].at(base), numbers[2].at(base));
+    let status = unsafe {
+        entries::calduvren_pool(
+            table_at,
+            length,
+            shares,
+            masks,
+            notion,
+            order,
+            list_at,
+            list_length,
+            answer,
+            size,
+            rank,
+        )
+    };
+    lent.reply(status, &numbers, None)
 }
 
 pub fn set_dependence(table: &[u8], [shares, masks, notion]: [usize; 3], set: &[u16]) -> Reply {

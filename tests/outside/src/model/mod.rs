@@ -1,4 +1,4 @@
-//! The model: the scope written down a second time, as a program of its own. Here are the fourteen entries, each with its
+//! The model: the scope written down a second time, as a program of its own. Here are the sixteen entries, each with its
 //! refusals in the scope's order (the two that give a verdict are one here); the modules hold what they rest on.
 
 pub mod breaking;
@@ -8,6 +8,7 @@ pub mod isw;
 pub mod lines;
 pub mod notes;
 pub mod plan;
+pub mod pool;
 pub mod reading;
 pub mod records;
 pub mod report;
@@ -22,8 +23,9 @@ use crate::reply::Reply;
 use breaking::{allowed, shares_of_a, shares_of_b, sum, Found, TooMany, NI, SCOPE, SNI};
 use functions::{COPY, PRODUCT, SUM};
 use isw::MAX_ISW_ORDER;
+use pool::{Asked, Filing, FILED_REPORT_BYTES};
 use reading::Reading;
-use records::{length_is_wrong, parse, tested, to_bytes, MAX_WIRES, RECORD_BYTES};
+use records::{length_is_wrong, parse, tested, to_bytes, Record, MAX_WIRES, RECORD_BYTES};
 use sets::{MAX_JOBS, MAX_SIZE};
 use sizes::Size;
 use trees::Fault;
@@ -96,22 +98,28 @@ pub fn verdict(
     [shares, masks, notion, order, set_length]: [usize; 5],
     most: u64,
 ) -> Result<Reply, TooMany> {
-    let records = match tested(table, shares, masks) {
+    let records = match tested_for_verdict(table, [shares, masks, notion, order]) {
         Ok(records) => records,
         Err(number) => return Ok(Reply::refused(number)),
     };
-    if notion != NI && notion != SNI {
-        return Ok(Reply::refused(14));
-    }
-    if order < 1 || order > shares - 1 {
-        return Ok(Reply::refused(15));
-    }
     if set_length < order {
         return Ok(Reply::refused(16));
     }
     SCOPE
         .first(&records, notion, order, most)
         .map(|found| found_by_verdict(found.map(|found| found.set)))
+}
+
+/// The first of the refusals 11 to 15, or the records.
+fn tested_for_verdict(table: &[u8], [shares, masks, notion, order]: [usize; 4]) -> Result<Vec<Record>, u64> {
+    let records = tested(table, shares, masks)?;
+    if notion != NI && notion != SNI {
+        return Err(14);
+    }
+    match (1..shares).contains(&order) {
+        true => Ok(records),
+        false => Err(15),
+    }
 }
 
 pub fn found_by_verdict(found: Option<Vec<u16>>) -> Reply {
@@ -145,6 +153,27 @@ pub fn found_by_range(size: usize, found: Option<Found>) -> Reply {
     match found {
         None => Reply::answered(&[1], Vec::new()),
         Some(Found { rank, set }) => Reply::answered(&[0, size as u64, rank], set),
+    }
+}
+
+/// The reply to filed_report, where so many bytes are lent for the report.
+pub fn filed_report(filing: &Filing, report_length: usize) -> Reply {
+    if report_length != FILED_REPORT_BYTES || !filing.is_sound() {
+        return Reply::refused(25);
+    }
+    Reply::answered(&[], filing.report().bytes().into_iter().map(u16::from).collect())
+}
+
+pub fn pool(table: &[u8], numbers: [usize; 4], list: &[u8]) -> Reply {
+    let [_, _, notion, order] = numbers;
+    match tested_for_verdict(table, numbers) {
+        Err(number) => Reply::refused(number),
+        Ok(records) => pool::RIGHT.reply(&Asked {
+            records: &records,
+            notion,
+            order,
+            list,
+        }),
     }
 }
 
