@@ -4,10 +4,15 @@
 mod counts;
 pub mod dependence;
 pub mod directed;
+pub mod filed;
 pub mod isw;
 pub mod notes;
 pub mod plan;
 mod plan_lines;
+pub mod pool;
+mod pool_finds;
+mod pool_ranks;
+mod pool_reports;
 pub mod sizes;
 mod sums;
 mod walk_ranges;
@@ -156,6 +161,8 @@ pub fn name_all(tally: &mut Tally) {
     sizes::name_all(tally);
     plan::name_all(tally);
     walks::name_all(tally);
+    filed::name_all(tally);
+    pool::name_all(tally);
     VERDICTS.iter().for_each(|(name, _, _)| tally.expect_fault(name));
     for name in [TWO_SYMBOLS, NO_SUMS, TURNED_DOWN, NO_TABLE, CLEAN, INVENTED_COUNT] {
         tally.expect_fault(name);

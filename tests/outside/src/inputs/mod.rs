@@ -10,6 +10,7 @@ pub mod gadgets;
 pub mod known;
 pub mod noted;
 pub mod plans;
+pub mod pools;
 pub mod runs;
 pub mod searches;
 pub mod sums;

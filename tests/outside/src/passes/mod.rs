@@ -2,17 +2,23 @@
 //! random numbers, so that a change to one pass leaves the inputs of the others as they were.
 
 mod alike;
+mod campaigns;
 mod dependence;
 pub mod examples;
 mod far;
+mod filed;
 mod guards;
 mod header;
 mod isw;
 mod isw_program;
 mod jobs;
 mod large;
+mod long_pools;
 mod noted;
 mod plan_program;
+mod pool_lists;
+mod pool_refusals;
+mod pools;
 mod programs;
 mod quick;
 mod ranges;
@@ -34,7 +40,7 @@ use crate::tally::Tally;
 
 type Pass = fn(&mut Random, &mut Tally);
 
-const PASSES: [Pass; 25] = [
+const PASSES: [Pass; 31] = [
     guards::run,
     examples::run,
     sets::run,
@@ -60,6 +66,12 @@ const PASSES: [Pass; 25] = [
     alike::run,
     far::run,
     quick::run,
+    pools::run,
+    pool_lists::run,
+    pool_refusals::run,
+    filed::run,
+    campaigns::run,
+    long_pools::run,
 ];
 
 pub fn run_all(seed: u64, tally: &mut Tally) {

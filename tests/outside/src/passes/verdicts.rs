@@ -84,7 +84,7 @@ fn all_conditions(random: &mut Random, tally: &mut Tally) -> usize {
 }
 
 /// A call, with its notion, order and length of the buffer, that fails just these conditions: bit 0 for 11 and so on.
-fn call_that_fails(random: &mut Random, failed: u32) -> (TableCall, [usize; 3]) {
+pub fn call_that_fails(random: &mut Random, failed: u32) -> (TableCall, [usize; 3]) {
     let fails = |refusal: u32| failed >> (refusal - FIRST_REFUSAL) & 1 == 1;
     let (shares, masks, wires) = (
         random.between(3, MAX_SHARES),
