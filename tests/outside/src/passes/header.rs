@@ -9,6 +9,7 @@ use crate::answers::REQUIRED;
 use crate::model::breaking::{NI, SNI};
 use crate::model::functions::{COPY, PRODUCT, SUM};
 use crate::model::isw::MAX_ISW_ORDER;
+use crate::model::pool::{BROKEN, FILED_REPORT_BYTES, HOLDS, UNCOVERED};
 use crate::model::reading::MAX_TEXT_BYTES;
 use crate::model::records::{MAX_MASKS, MAX_SHARES, MAX_TABLE_BYTES, MAX_WIRES, RECORD_BYTES};
 use crate::model::sets::{MAX_JOBS, MAX_SIZE};
@@ -22,19 +23,20 @@ pub const HEADER: &str = "include/calduvren.h";
 const CRATE: &str = "crates/calduvren/src";
 const EXPORTED: &str = "pub extern \"C\" fn ";
 /// Where the work of the exported functions is done, by functions of the same names without this word before them.
-const BELOW: [&str; 6] = [
+const BELOW: [&str; 7] = [
     "crates/set_calls/src",
     "crates/table_calls/src",
     "crates/verdict_calls/src",
     "crates/text_calls/src",
     "crates/page_calls/src",
     "crates/size_calls/src",
+    "crates/pool_calls/src",
 ];
 const BEFORE: &str = "calduvren_";
 /// The header's rule: a function more raises the version's minor number, another answer to the same call its major one.
 /// So these two change together.
-const FUNCTIONS: usize = 14;
-const VERSION: usize = 20_300;
+const FUNCTIONS: usize = 16;
+const VERSION: usize = 20_400;
 
 /// A function's arguments as C declares them.
 type Declarations = BTreeMap<String, Vec<String>>;
@@ -42,10 +44,10 @@ type Declarations = BTreeMap<String, Vec<String>>;
 type Contracts = BTreeMap<String, Vec<String>>;
 
 const REFUSED: &str = "CALDUVREN_REFUSED_";
-pub const REFUSALS: u64 = 24;
+pub const REFUSALS: u64 = 26;
 
 /// In the header's order. The refusals have the scope's numbers.
-const CONSTANTS: [(&str, usize); 43] = [
+const CONSTANTS: [(&str, usize); 49] = [
     ("CALDUVREN_VERSION", VERSION),
     ("CALDUVREN_MAX_TEXT_BYTES", MAX_TEXT_BYTES),
     ("CALDUVREN_RECORD_BYTES", RECORD_BYTES),
@@ -58,12 +60,16 @@ const CONSTANTS: [(&str, usize); 43] = [
     ("CALDUVREN_MAX_JOBS", MAX_JOBS as usize),
     ("CALDUVREN_MAX_REPORT_BYTES", REPORT_BYTES),
     ("CALDUVREN_MAX_ISW_ORDER", MAX_ISW_ORDER),
+    ("CALDUVREN_FILED_REPORT_BYTES", FILED_REPORT_BYTES),
     ("CALDUVREN_STACK_BYTES", STACK_BYTES),
     ("CALDUVREN_NI", NI),
     ("CALDUVREN_SNI", SNI),
     ("CALDUVREN_PRODUCT", PRODUCT),
     ("CALDUVREN_SUM", SUM),
     ("CALDUVREN_COPY", COPY),
+    ("CALDUVREN_POOL_HOLDS", HOLDS as usize),
+    ("CALDUVREN_POOL_BROKEN", BROKEN as usize),
+    ("CALDUVREN_POOL_UNCOVERED", UNCOVERED as usize),
     ("CALDUVREN_OK", 0),
     ("CALDUVREN_REFUSED_TEXT_TOO_LONG", 1),
     ("CALDUVREN_REFUSED_FIRST_LINE", 2),
@@ -89,6 +95,8 @@ const CONSTANTS: [(&str, usize); 43] = [
     ("CALDUVREN_REFUSED_TEXT_PART", 22),
     ("CALDUVREN_REFUSED_ISW_ORDER", 23),
     ("CALDUVREN_REFUSED_ISW_ROOM", 24),
+    ("CALDUVREN_REFUSED_FILED_REPORT", 25),
+    ("CALDUVREN_REFUSED_FIND", 26),
 ];
 
 pub fn run(_: &mut Random, tally: &mut Tally) {

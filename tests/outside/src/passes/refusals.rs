@@ -11,6 +11,8 @@ const GUIDE: &str = "docs/GUIDE.md";
 const HEADING: &str = "## Refusals";
 /// Number, from, means, where, what to do.
 const COLUMNS: usize = 5;
+/// In the header's lists, what stands before words that go on from the line before: they begin where those do.
+const GOING_ON: &str = " *       ";
 
 /// A function's name and its refusals in order. They are words and no numbers, as what a comment lists may be none.
 type Listed = (String, Vec<String>);
@@ -48,10 +50,10 @@ fn in_header(header: &str) -> Vec<Listed> {
     parts.windows(2).map(function).collect()
 }
 
-/// The list is the last that a comment has, so each line of the rest has to be a number and some words.
+/// The list is the last that a comment has, so each line of the rest has to be a number and some words, or go on.
 fn in_comment(comment: &str) -> Vec<String> {
     let (comment, _) = comment.split_once("*/").unwrap_or((comment, ""));
-    let lines = comment.trim_end().lines();
+    let lines = comment.trim_end().lines().filter(|line| !line.starts_with(GOING_ON));
     let lines = lines.map(|line| line.trim_start_matches([' ', '*']));
     let list = lines.skip_while(|line| !line.starts_with("Refusals")).skip(1);
     let number = |line: &str| match line.split_once(' ') {

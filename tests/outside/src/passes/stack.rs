@@ -7,11 +7,13 @@ use crate::engine;
 use crate::inputs::calls::TableCall;
 use crate::inputs::tables::{planted, Table};
 use crate::model;
+use crate::model::breaking::SNI;
 use crate::model::isw::MAX_ISW_ORDER;
+use crate::model::pool::{list_of, Filed, Filing, CLEAN, FILED_REPORT_BYTES};
 use crate::model::reading::{read, MAX_TEXT_BYTES};
 use crate::model::records::{to_bytes, MAX_SHARES, MAX_TABLE_BYTES, MAX_WIRES, RECORD_BYTES};
 use crate::model::report::report;
-use crate::model::sets::{count, from_rank, MAX_JOBS, MAX_SIZE};
+use crate::model::sets::{self, count, from_rank, MAX_JOBS, MAX_SIZE};
 use crate::model::sizes::Size;
 use crate::random::Random;
 use crate::reply::Reply;
@@ -20,6 +22,8 @@ use std::thread::Builder;
 
 pub const STACK_BYTES: usize = 262_144;
 pub const REPORT_BYTES: usize = 512;
+/// Of one size, for a pool.
+const REPORTS: u64 = 3_000;
 
 /// A call to the engine, and what the model says to it.
 struct Call {
@@ -79,7 +83,19 @@ fn calls_on_numbers() -> Vec<Call> {
     let from_set = model::rank_from_set(wires, &set);
     let job = model::job(wires, size, MAX_JOBS - 1, MAX_JOBS);
     let isw = model::isw_text(MAX_ISW_ORDER, MAX_TEXT_BYTES);
+    let filing = Filing {
+        notion: SNI,
+        size,
+        from: 0,
+        to: last + 1,
+        clean: 0,
+        rank: last,
+    };
+    let filed = model::filed_report(&filing, FILED_REPORT_BYTES);
     vec![
+        call(Entry::FiledReport, "found", filed, move || {
+            engine::filed_report(&filing, FILED_REPORT_BYTES)
+        }),
         call(Entry::SetCount, word, model::set_count(wires, size), move || {
             engine::set_count(wires, size)
         }),
@@ -173,6 +189,21 @@ fn calls_on_table(random: &mut Random, table: &Table, order: usize, range: [u64;
         calls.push(call(Entry::RangeCheck, word, reply, move || {
             engine::range_check(&for_range, numbers, range)
         }));
+        calls.push(pool(random, &table, [shares, masks, notion]));
     }
     calls
+}
+
+/// All ranks of all sizes, in any order.
+fn pool(random: &mut Random, table: &[u8], [shares, masks, notion]: [usize; 3]) -> Call {
+    let (table, wires, order) = (table.to_vec(), table.len() / RECORD_BYTES, shares - 1);
+    let jobs = (1..=order).flat_map(|size| (0..REPORTS).map(move |number| (size, number)));
+    let report = |(size, number)| Filed::new([notion, size], sets::job(wires, size, number, REPORTS), CLEAN);
+    let mut reports: Vec<Filed> = jobs.map(report).collect();
+    random.shuffle(&mut reports);
+    let (numbers, list) = ([shares, masks, notion, order], list_of(&reports));
+    let reply = model::pool(&table, numbers, &list);
+    call(Entry::Pool, "holds", reply, move || {
+        engine::pool(&table, numbers, &list)
+    })
 }
