@@ -22,16 +22,20 @@
 #if CALDUVREN_VERSION < 10000 || CALDUVREN_VERSION > 999999
 #error "CALDUVREN_VERSION is no major * 10000 + minor * 100 + patch with a major number from 1 to 99"
 #endif
+#if CALDUVREN_VERSION != 20400
+#error "these are the calls of version 2.4.0"
+#endif
 
 /* All that a call may write. Before each call every byte of it is UNTOUCHED. */
 struct answer {
     size_t order, shares, masks, wires, bytes, offset, length, size, of_a, of_b, allowed;
-    uint64_t yes, holds, clean, rank, sets, from, to, masked;
+    uint64_t yes, holds, clean, rank, sets, from, to, masked, answer;
     uint64_t sets_by_size[CALDUVREN_MAX_ORDER + 1];
     uint16_t set[CALDUVREN_MAX_SIZE + 1];
     uint8_t table[CALDUVREN_MAX_TABLE_BYTES];
     uint8_t buffer[CALDUVREN_MAX_REPORT_BYTES];
     uint8_t text[CALDUVREN_MAX_TEXT_BYTES];
+    uint8_t report[CALDUVREN_FILED_REPORT_BYTES + 1];
 };
 #define UNTOUCHED 0xD1
 
@@ -94,7 +98,7 @@ static void compare(const char *call, calduvren_status status, calduvren_status 
 #define REFUSES(call, refusal) compare(#call, call, CALDUVREN_REFUSED_##refusal)
 
 /* The refusals in the order of the scope's numbers, from 1. So none is missing, and no two have the same. */
-#define REFUSALS 24u
+#define REFUSALS 26u
 #define NAMED(refusal) {#refusal, CALDUVREN_REFUSED_##refusal}
 static const struct {
     const char *name;
@@ -104,6 +108,7 @@ static const struct {
     NAMED(PARENTHESIS), NAMED(BAR), NAMED(DEPTH), NAMED(LINES), NAMED(WIRES), NAMED(SHARES_OR_MASKS),
     NAMED(TABLE_LENGTH), NAMED(RECORD), NAMED(NOTION), NAMED(ORDER), NAMED(BUFFER), NAMED(SIZE), NAMED(RANKS),
     NAMED(JOBS), NAMED(FUNCTION), NAMED(WIRE_NUMBERS), NAMED(TEXT_PART), NAMED(ISW_ORDER), NAMED(ISW_ROOM),
+    NAMED(FILED_REPORT), NAMED(FIND),
 };
 
 static void refusal_names(void)
@@ -363,6 +368,82 @@ static void range_check(void)
     REFUSES(RANGE(sizeof table_b, 2, 1, CALDUVREN_NI, 1, 7, 10, 1), RANKS);
 }
 
+/* A report laid out by hand; `rank` is all ones where the ranks are clean. */
+#define CLEAN UINT64_MAX
+static void lay_out_report(uint8_t *report, uint8_t notion, uint8_t size, uint64_t from, uint64_t to, uint64_t rank)
+{
+    const uint64_t numbers[3] = {from, to, rank};
+    memset(report, 0, CALDUVREN_FILED_REPORT_BYTES);
+    report[0] = notion;
+    report[1] = size;
+    for (size_t i = 0; i < 24; i++)
+        report[8 + i] = (uint8_t)(numbers[i / 8] >> 8 * (i % 8));
+}
+
+#define FILE_REPORT(notion, size_asked, from, to, clean, rank, report_length) \
+    calduvren_filed_report(notion, size_asked, from, to, clean, rank, lent.report, report_length)
+
+static void filed_report(void)
+{
+    const uint64_t most = 1756185841659392; /* sets of seven out of 512 wires */
+    lay_out_report(wanted.report, CALDUVREN_SNI, 2, 3, 5, 4);
+    ANSWERS(FILE_REPORT(CALDUVREN_SNI, 2, 3, 5, 0, 4, CALDUVREN_FILED_REPORT_BYTES));
+    lay_out_report(wanted.report, CALDUVREN_NI, CALDUVREN_MAX_SIZE, 0x0102030405, most, CLEAN);
+    ANSWERS(FILE_REPORT(CALDUVREN_NI, CALDUVREN_MAX_SIZE, 0x0102030405, most, 1, 7, CALDUVREN_FILED_REPORT_BYTES));
+    lay_out_report(wanted.report, CALDUVREN_NI, 1, 512, 512, CLEAN); /* no ranks */
+    ANSWERS(FILE_REPORT(CALDUVREN_NI, 1, 512, 512, 1, 0, CALDUVREN_FILED_REPORT_BYTES));
+    REFUSES(FILE_REPORT(CALDUVREN_SNI, 2, 3, 5, 0, 4, CALDUVREN_FILED_REPORT_BYTES - 1), FILED_REPORT);
+    REFUSES(FILE_REPORT(CALDUVREN_SNI, 2, 3, 5, 0, 4, CALDUVREN_FILED_REPORT_BYTES + 1), FILED_REPORT);
+    REFUSES(FILE_REPORT(3, 2, 3, 5, 0, 4, CALDUVREN_FILED_REPORT_BYTES), FILED_REPORT);
+    REFUSES(FILE_REPORT(CALDUVREN_SNI, 0, 0, 1, 1, 4, CALDUVREN_FILED_REPORT_BYTES), FILED_REPORT);
+    REFUSES(FILE_REPORT(CALDUVREN_SNI, 2, 5, 3, 1, 4, CALDUVREN_FILED_REPORT_BYTES), FILED_REPORT);
+    REFUSES(FILE_REPORT(CALDUVREN_SNI, 7, 3, most + 1, 1, 4, CALDUVREN_FILED_REPORT_BYTES), FILED_REPORT);
+    REFUSES(FILE_REPORT(CALDUVREN_SNI, 2, 3, 5, 2, 4, CALDUVREN_FILED_REPORT_BYTES), FILED_REPORT);
+    REFUSES(FILE_REPORT(CALDUVREN_SNI, 2, 3, 5, 0, 2, CALDUVREN_FILED_REPORT_BYTES), FILED_REPORT);
+    REFUSES(FILE_REPORT(CALDUVREN_SNI, 2, 3, 5, 0, 5, CALDUVREN_FILED_REPORT_BYTES), FILED_REPORT);
+}
+
+#define POOL(table_length, shares, masks, notion, order_asked, reports, reports_length) \
+    calduvren_pool(table_b, table_length, shares, masks, notion, order_asked, reports, reports_length, &lent.answer, \
+                   &lent.size, &lent.rank)
+
+static void want_place(uint64_t answer, size_t size, uint64_t rank)
+{
+    wanted.answer = answer;
+    wanted.size = size;
+    wanted.rank = rank;
+}
+
+/* On text B, of which nine ranks are to be covered at order 1, and those at 6 and 7 break. */
+static void pool(void)
+{
+    uint8_t reports[3][CALDUVREN_FILED_REPORT_BYTES];
+    const uint8_t *list = reports[0];
+    lay_out_report(reports[0], CALDUVREN_NI, 1, 5, 9, CLEAN); /* not true, but believed */
+    lay_out_report(reports[1], CALDUVREN_NI, 1, 0, 5, CLEAN);
+    lay_out_report(reports[2], CALDUVREN_NI, 1, 4, 9, 7);
+    wanted.answer = CALDUVREN_POOL_HOLDS;
+    ANSWERS(POOL(sizeof table_b, 2, 1, CALDUVREN_NI, 1, list, 64));
+    want_place(CALDUVREN_POOL_BROKEN, 1, 7);
+    ANSWERS(POOL(sizeof table_b, 2, 1, CALDUVREN_NI, 1, list, 96));
+    want_place(CALDUVREN_POOL_UNCOVERED, 1, 0);
+    ANSWERS(POOL(sizeof table_b, 2, 1, CALDUVREN_NI, 1, list, 32));
+    want_place(CALDUVREN_POOL_UNCOVERED, 2, 0); /* at order 2 pairs are to be covered too */
+    ANSWERS(POOL(sizeof table_b, 3, 1, CALDUVREN_NI, 2, list, 64));
+    REFUSES(POOL(sizeof table_b, 9, 1, CALDUVREN_NI, 1, list, 96), SHARES_OR_MASKS);
+    REFUSES(POOL(sizeof table_b, 2, 65, CALDUVREN_NI, 1, list, 96), SHARES_OR_MASKS);
+    REFUSES(POOL(sizeof table_b - 1, 2, 1, CALDUVREN_NI, 1, list, 96), TABLE_LENGTH);
+    REFUSES(POOL(sizeof table_b, 2, 0, CALDUVREN_NI, 1, list, 96), RECORD);
+    REFUSES(POOL(sizeof table_b, 2, 1, 3, 1, list, 96), NOTION);
+    REFUSES(POOL(sizeof table_b, 2, 1, CALDUVREN_NI, 2, list, 96), ORDER);
+    REFUSES(POOL(sizeof table_b, 2, 1, CALDUVREN_NI, 1, list, 95), FILED_REPORT);
+    REFUSES(POOL(sizeof table_b, 2, 1, CALDUVREN_SNI, 1, list, 96), FILED_REPORT);
+    lay_out_report(reports[2], CALDUVREN_NI, 1, 4, 9, 5);
+    REFUSES(POOL(sizeof table_b, 2, 1, CALDUVREN_NI, 1, list, 96), FIND);
+    reports[1][2] = 1; /* as of a check under way */
+    REFUSES(POOL(sizeof table_b, 2, 1, CALDUVREN_NI, 1, list, 96), FILED_REPORT);
+}
+
 #define DEPENDS(table, table_length, shares, masks, notion, set, set_length) \
     calduvren_set_dependence(table, table_length, shares, masks, notion, set, set_length, \
                              &lent.of_a, &lent.of_b, &lent.allowed, &lent.masked)
@@ -471,6 +552,9 @@ static void no_elements(void)
     ANSWERS(JUDGE(&none, 0, 2, 0, CALDUVREN_SNI, 1, 1));
     wanted.holds = 1;
     ANSWERS(DIRECT(&none, 0, 2, 0, CALDUVREN_SNI, 1, 1));
+    REFUSES(calduvren_filed_report(CALDUVREN_NI, 1, 0, 1, 1, 0, &none, 0), FILED_REPORT);
+    wanted.answer = CALDUVREN_POOL_HOLDS;
+    ANSWERS(calduvren_pool(&none, 0, 2, 0, CALDUVREN_SNI, 1, &none, 0, &lent.answer, &lent.size, &lent.rank));
     want_dependence(0, 0, 0, 0);
     ANSWERS(DEPENDS(&none, 0, 2, 0, CALDUVREN_SNI, &no_wire, 0));
     ANSWERS(calduvren_set_from_rank(24, 0, 0, &no_wire, 0));
@@ -532,6 +616,8 @@ int main(void)
     verdict();
     directed_verdict();
     range_check();
+    filed_report();
+    pool();
     set_dependence();
     numbering();
     job();
