@@ -1,10 +1,10 @@
 /*
  * Times the engine's range check against the C of walk.h that keeps a running sum, and the engine's verdict against its
  * range check, in one run and by turns, over tables that hold: every set is visited. The directed verdict follows
- * (directed_times.h). Before that the searches have to agree (compare.h). A ratio is called ok or not by its target; no
- * time decides on the exit status. `bench/run` builds and runs it.
+ * (directed_times.h), then the pool (pool_times.h). Before that the searches have to agree (compare.h). A ratio is
+ * called ok or not by its target; no time decides on the exit status. `bench/run` builds and runs it.
  *
- * exit status: 0 the times were printed; 1 the searches differ
+ * exit status: 0 the times were printed; 1 the searches differ, or the pools
  */
 #include <inttypes.h>
 #include <stdio.h>
@@ -13,6 +13,7 @@
 #include "compare.h"
 #include "directed_times.h"
 #include "engine.h"
+#include "pool_times.h"
 #include "sets.h"
 #include "tables.h"
 #include "turns.h"
@@ -118,5 +119,7 @@ int main(void)
     }
     printf("\n");
     time_directed();
+    printf("\n");
+    time_pool();
     return 0;
 }
