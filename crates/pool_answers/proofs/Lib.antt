@@ -3,7 +3,9 @@
 --     Saying       what the pool's answers say of the reports
 --     Agreeing     what they say of the table, if every clean report is true
 --     Filing       what is filed, and that a pool takes it
+--     Gathering    the reports of a search that is divided over jobs
 pub mod Conditions
 pub mod Saying
 pub mod Agreeing
 pub mod Filing
+pub mod Gathering

@@ -2,6 +2,7 @@
 --     within                             what is found is a place within the order
 --     found-first, first-found           the first place found is the first that is reported
 --     place-uncovered, uncovered-place   the first place that is not covered
+--     Found, Missing, Whole, three       it is one of the three answers
 --     holds-exactly, broken-exactly, uncovered-exactly     each answer is told exactly when what it says is so
 --     pool-says                          what each answer says
 use Prim.Native.Nat.{ℕ, _≤_, _<_}
@@ -116,13 +117,13 @@ module _ (table : List ℕ) (shares masks notion order : ℕ) (reports : List �
   told = poolOf table shares masks notion order reports
 
   -- which of the three it is
-  abbrev Found : Type 0
+  abbrev pub Found : Type 0
   Found = (size rank : ℕ) × FirstReported reports size rank × (told ≡ brokenTold size rank)
 
-  abbrev Missing : Type 0
+  abbrev pub Missing : Type 0
   Missing = (size rank : ℕ) × NoneReported reports × FirstUncovered n order reports size rank × (told ≡ uncoveredTold size rank)
 
-  abbrev Whole : Type 0
+  abbrev pub Whole : Type 0
   Whole = NoneReported reports × AllCovered n order reports × (told ≡ holdsTold)
 
   told-broken : (size rank : ℕ) → FirstReported reports size rank → told ≡ brokenTold size rank
