@@ -28,7 +28,7 @@ use Rattle.reader.proofs.Telling.{tableless-read, tableless-down, too-large, la
 use Rattle.plan_text.specs.Answers.{figures, sizeTold, counted, sizeOf, checkSize}
 use Rattle.plan_text.specs.Says.{OverMany, Figures, SizeSays}
 use Rattle.plan_text.specs.declared.SizeAnswer.{SizeAnswer}
-use Rattle.plan_text.proofs.Counting.{counted-length, counted-at, counted-rest, zeros}
+use Rattle.sets_by_size.proofs.Counting.{counted-length, counted-at, counted-rest, zeros}
 use Rattle.plan_text.proofs.Ten.{Low, below-ten}
 
 module _ (text : List ℕ) where

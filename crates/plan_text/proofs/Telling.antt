@@ -28,7 +28,7 @@ use Rattle.reader.proofs.Telling.{tableless-read}
 use Rattle.plan_text.specs.Answers.{figures, refused, sizeOf, checkSize, setCounts, counted, totalOf}
 use Rattle.plan_text.specs.Says.{OverMany, SizeSays}
 use Rattle.plan_text.specs.declared.SizeAnswer.{SizeAnswer}
-use Rattle.plan_text.proofs.Totals.{total-exact}
+use Rattle.sets_by_size.proofs.Totals.{total-exact}
 use Rattle.plan_text.proofs.Sizing.{read-says, refused-says}
 
 module _ (text : List ℕ) where

@@ -16,7 +16,7 @@ use Rattle.limits.specs.Limits.{maxOrder, maxWires}
 use Rattle.basics.specs.Folds.{fold}
 use Rattle.basics.proofs.Folds.{fold-append}
 use Rattle.counts.specs.Counts.{binom}
-use Rattle.plan_text.specs.Answers.{setCounts, counted, most, capped, totalOf}
+use Rattle.sets_by_size.specs.Counted.{setCounts, counted, most, capped, totalOf}
 
 pub capped-low : (n : ℕ) → n ≤ most → capped n ≡ n
 capped-low n h = ap (λ (b : Bool). cond b most n) (le-ltb most n h)

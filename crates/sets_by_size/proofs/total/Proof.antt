@@ -1,14 +1,14 @@
--- `plan_text::total` meets its contract: before each turn the numbers so far are added.
+-- `sets_by_size::total` meets its contract: before each turn the numbers so far are added.
 -- Assumes nothing.
 use Prim.Native.Nat.{ℕ, _+_, _-_, _≤_}
 use mathlib.Core.Path.{_≡_, _∙_, ap}
 use lib.ListN.{length, getD, take}
 use lib.Seq.{take-all}
-use Rattle.plan_text.specs.Answers.{capped, totalOf}
-use Rattle.plan_text.proofs.Totals.{total-more}
+use Rattle.sets_by_size.specs.Counted.{capped, totalOf}
+use Rattle.sets_by_size.proofs.Totals.{total-more}
 use borrow.Author.Needs.{needs}
-use Rattle.plan_text.proofs.total.Statement.{statement}
-use Rattle.plan_text.proofs.total.Tie as tie
+use Rattle.sets_by_size.proofs.total.Statement.{statement}
+use Rattle.sets_by_size.proofs.total.Tie as tie
 
 abbrev Inv-loop : tie.InvT-loop
 Inv-loop sets all₀ i₀ i-end all i = (i ≤ length sets) × (all ≡ totalOf (take i sets))

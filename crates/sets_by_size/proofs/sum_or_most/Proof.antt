@@ -1,12 +1,12 @@
--- `plan_text::sum_or_most` meets its contract: a sum of 64 bits, or the largest number of as many.
+-- `sets_by_size::sum_or_most` meets its contract: a sum of 64 bits, or the largest number of as many.
 -- Assumes nothing.
 use Prim.Native.Nat.{_+_}
 use native.Mathlib.Omega.{arith}
 use mathlib.Core.Path.{sym}
-use Rattle.plan_text.proofs.Totals.{capped-low, capped-high}
+use Rattle.sets_by_size.proofs.Totals.{capped-low, capped-high}
 use borrow.Author.Needs.{needs}
-use Rattle.plan_text.proofs.sum_or_most.Statement.{statement}
-use Rattle.plan_text.proofs.sum_or_most.Tie as tie
+use Rattle.sets_by_size.proofs.sum_or_most.Statement.{statement}
+use Rattle.sets_by_size.proofs.sum_or_most.Tie as tie
 
 sub-if1 : tie.Need-sub-if1
 sub-if1 c = search needs

@@ -1,14 +1,14 @@
--- `plan_text::set_counts` meets its contract: before each turn the numbers of the sizes so far stand in their places, and the rest is 0.
+-- `sets_by_size::set_counts` meets its contract: before each turn the numbers of the sizes so far stand in their places, and the rest is 0.
 -- Assumes nothing.
 use Prim.Native.Nat.{ℕ, _-_, _≤_, _<_}
 use mathlib.Core.Path.{_≡_, _∙_, ap}
 use lib.ListN.{length, set}
 use Rattle.limits.specs.Limits.{maxOrder}
-use Rattle.plan_text.specs.Answers.{counted}
-use Rattle.plan_text.proofs.Counting.{counted-more}
+use Rattle.sets_by_size.specs.Counted.{counted}
+use Rattle.sets_by_size.proofs.Counting.{counted-more}
 use borrow.Author.Needs.{needs}
-use Rattle.plan_text.proofs.set_counts.Statement.{statement}
-use Rattle.plan_text.proofs.set_counts.Tie as tie
+use Rattle.sets_by_size.proofs.set_counts.Statement.{statement}
+use Rattle.sets_by_size.proofs.set_counts.Tie as tie
 
 abbrev Inv-loop : tie.InvT-loop
 Inv-loop wires order table sets₀ i₀ sets i = (i ≤ order) × (length sets ≡ maxOrder) × (sets ≡ counted wires i)

@@ -1,4 +1,4 @@
--- `plan_text::write_sets` meets its contract: before each turn the first numbers are copied, and the rest of the buffer is as it was.
+-- `sets_by_size::write_sets` meets its contract: before each turn the first numbers are copied, and the rest of the buffer is as it was.
 -- Assumes nothing.
 use Prim.Native.Nat.{ℕ, suc, _+_, _-_, _≤_, _<_}
 use native.Mathlib.Omega.{arith}
@@ -7,8 +7,8 @@ use mathlib.Core.List.{List, _++_}
 use lib.ListN.{length, getD, set, drop}
 use lib.Seq.{paste, paste-zero, paste-suc, take-all}
 use borrow.Author.Needs.{needs}
-use Rattle.plan_text.proofs.write_sets.Statement.{statement}
-use Rattle.plan_text.proofs.write_sets.Tie as tie
+use Rattle.sets_by_size.proofs.write_sets.Statement.{statement}
+use Rattle.sets_by_size.proofs.write_sets.Tie as tie
 
 pasted-more : (buffer sets held : List ℕ) (i : ℕ) → i < length buffer → i < length sets → held ≡ paste buffer 0 sets i
     → set held i (getD sets i 0) ≡ paste buffer 0 sets (i + 1)
