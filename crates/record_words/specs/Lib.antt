@@ -1,7 +1,5 @@
 -- The definitions that the promises of `record_words` cite.
 --     Symbols   the sums that name symbols
 --     Writing   the bytes of a record that is written
---     Cut       terms cut to the first shares of each operand
 pub mod Symbols
 pub mod Writing
-pub mod Cut

@@ -4,7 +4,7 @@ use crate::symbols::names_share_b;
 use crate::symbols::say_symbols;
 use console::saying::say;
 use limits::MAX_SHARES;
-use record_words::functions::function_record;
+use record_tests::functions::function_record;
 use records::sums::Sum;
 use records::sums::added;
 use records::sums::sum_of_outers;

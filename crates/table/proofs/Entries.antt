@@ -28,7 +28,7 @@ use Rattle.wires.proofs.Dependence.{blank-bits, bits-blank}
 use Rattle.wires.proofs.Function.{computes-exactly}
 use Rattle.wires.proofs.Narrow.{Within, AllWithin, within-plus, within-total, breaks-narrow, blank-narrow}
 use Rattle.records.specs.Layout.{recordAt, wireAt, wireCount, wires, inside}
-use Rattle.record_words.specs.Cut.{FirstShares}
+use Rattle.record_tests.specs.Cut.{FirstShares}
 use Rattle.table.proofs.Conditions.{Sound, accepted-exactly, tested-answer, tested-refusal, function-chain, function-settled}
 use Rattle.table.specs.declared.Refusal.{Refusal}
 use Rattle.table.specs.declared.Refusal.the-variants.{NoSuchFunction}

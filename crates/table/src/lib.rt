@@ -9,7 +9,7 @@ use limits::MAX_SHARES;
 use limits::MAX_TABLE_BYTES;
 use limits::MIN_SHARES;
 use limits::RECORD_BYTES;
-use record_words::functions;
+use record_tests::functions;
 use records::sums;
 
 mod tests;

@@ -6,7 +6,7 @@ ghost use Rattle.basics.specs.Folds.{some, upTo};
 ghost use Rattle.records.specs.Layout.{wireCount, recordAt};
 ghost use Rattle.table.specs.Answers.{wrongRecord};
 use limits::RECORD_BYTES;
-use record_words::tests::is_within;
+use record_tests::tests::is_within;
 use records::layout::OUTER_AT;
 use records::sums::wire_record;
 

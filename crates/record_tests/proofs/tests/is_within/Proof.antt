@@ -1,10 +1,10 @@
--- `record_words::tests::is_within` meets its contract: a product beyond has its row or its column beyond, so the words of the shares tell it.
+-- `record_tests::tests::is_within` meets its contract: a product beyond has its row or its column beyond, so the words of the shares tell it.
 -- Assumes nothing.
 use borrow.Author.Tests.{not-true, not-false}
 use borrow.Author.Needs.{needs}
-use Rattle.record_words.proofs.Beyond.{a-beyond, b-beyond, then-the-masks}
-use Rattle.record_words.proofs.tests.is_within.Statement.{statement}
-use Rattle.record_words.proofs.tests.is_within.Tie as tie
+use Rattle.record_tests.proofs.Beyond.{a-beyond, b-beyond, then-the-masks}
+use Rattle.record_tests.proofs.tests.is_within.Statement.{statement}
+use Rattle.record_tests.proofs.tests.is_within.Tie as tie
 
 shares-seen-requires : tie.Need-shares-seen-requires
 shares-seen-requires c κs = search needs

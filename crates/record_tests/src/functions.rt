@@ -4,7 +4,7 @@ ghost use Prim.Native.Nat.{_≤_};
 ghost use Rattle.limits.specs.Limits.{maxShares, maxMasks};
 ghost use Rattle.wires.specs.Function.{functionTerms, blank};
 ghost use Rattle.records.specs.Layout.{termsOf};
-ghost use Rattle.record_words.specs.Cut.{FirstShares};
+ghost use Rattle.record_tests.specs.Cut.{FirstShares};
 use records::sums::Sum;
 
 // All products of the first n shares of a and the first n of b, at place n.

@@ -1,9 +1,9 @@
--- `record_words::functions::function_record` meets its contract: both tables of the code hold what one test over each computes.
+-- `record_tests::functions::function_record` meets its contract: both tables of the code hold what one test over each computes.
 -- Assumes nothing.
 use borrow.Author.Needs.{needs}
-use Rattle.record_words.proofs.Named.{product-record, sum-record, copy-record}
-use Rattle.record_words.proofs.functions.function_record.Statement.{statement}
-use Rattle.record_words.proofs.functions.function_record.Tie as tie
+use Rattle.record_tests.proofs.Named.{product-record, sum-record, copy-record}
+use Rattle.record_tests.proofs.functions.function_record.Statement.{statement}
+use Rattle.record_tests.proofs.functions.function_record.Tie as tie
 
 mul-t6 : tie.Need-mul-t6
 mul-t6 c = search needs

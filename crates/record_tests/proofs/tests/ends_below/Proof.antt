@@ -1,10 +1,10 @@
--- `record_words::tests::ends_below` meets its contract: a word shifted down by the limit is 0 where no bit stands from there on.
+-- `record_tests::tests::ends_below` meets its contract: a word shifted down by the limit is 0 where no bit stands from there on.
 -- Assumes nothing.
 use borrow.Author.Needs.{needs}
 use Rattle.records.proofs.Words.{none-from}
-use Rattle.record_words.proofs.Beyond.{limit-past}
-use Rattle.record_words.proofs.tests.ends_below.Statement.{statement}
-use Rattle.record_words.proofs.tests.ends_below.Tie as tie
+use Rattle.record_tests.proofs.Beyond.{limit-past}
+use Rattle.record_tests.proofs.tests.ends_below.Statement.{statement}
+use Rattle.record_tests.proofs.tests.ends_below.Tie as tie
 
 returns : tie.Need-returns
 returns c = limit-past _ _ (c .if1 .taken)

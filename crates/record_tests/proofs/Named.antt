@@ -21,7 +21,7 @@ use Rattle.wires.specs.Function.{functionTerms, blank}
 use Rattle.wires.proofs.Dependence.{NoBits, blank-bits, bits-blank}
 use Rattle.records.specs.Words.{bit}
 use Rattle.records.specs.Layout.{decodeTerms}
-use Rattle.record_words.specs.Cut.{FirstShares}
+use Rattle.record_tests.specs.Cut.{FirstShares}
 use Rattle.records.proofs.Words.{bit-zero, no-bit}
 use Rattle.records.proofs.Bytes.{within-row}
 

@@ -1,8 +1,8 @@
--- `record_words::functions::is_blank` meets its contract: four words are 0 where no bit of the sum is set.
+-- `record_tests::functions::is_blank` meets its contract: four words are 0 where no bit of the sum is set.
 -- Assumes nothing.
-use Rattle.record_words.proofs.Named.{mask-left, product-left, a-left, then-b}
-use Rattle.record_words.proofs.functions.is_blank.Statement.{statement}
-use Rattle.record_words.proofs.functions.is_blank.Tie as tie
+use Rattle.record_tests.proofs.Named.{mask-left, product-left, a-left, then-b}
+use Rattle.record_tests.proofs.functions.is_blank.Statement.{statement}
+use Rattle.record_tests.proofs.functions.is_blank.Tie as tie
 
 returns : tie.Need-returns
 returns c =
