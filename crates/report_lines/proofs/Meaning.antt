@@ -49,8 +49,8 @@ use Rattle.reader.specs.Reads.{Readable}
 use Rattle.pages.proofs.Writing.{apart}
 use Rattle.verdict_lines.specs.Lines.{emptySet, notionLine}
 use Rattle.verdict_lines.proofs.Meaning.{line-says}
-use Rattle.report_lines.specs.Report.{orderLine, saysYes, functionLine, checked}
-use Rattle.report_lines.specs.Report.{refusedLine, emptyTable, reported, readReported, report}
+use Rattle.figure_lines.specs.Figures.{orderLine, saysYes, functionLine, refusedLine}
+use Rattle.report_lines.specs.Report.{checked, emptyTable, reported, readReported, report}
 use Rattle.report_lines.specs.Meaning.{tableOf, sharesOf, masksOf, Computes, NamesFunction, ReportSays, Refuses}
 
 -- ---- what reading comes to

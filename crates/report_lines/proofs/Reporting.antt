@@ -13,7 +13,8 @@ use Rattle.reader.specs.Answers.{ReadLent, readTold, readText}
 use Rattle.reader.specs.Reads.{ReadsGrammar}
 use Rattle.description.specs.declared.Refusal as reading
 use Rattle.pages.specs.Page.{Wrote}
-use Rattle.report_lines.specs.Report.{orderLine, checked, refusedLine, emptyTable, readReported, report}
+use Rattle.figure_lines.specs.Figures.{orderLine, refusedLine}
+use Rattle.report_lines.specs.Report.{checked, emptyTable, readReported, report}
 use Rattle.pages.proofs.Writing.{part-start, wrote-after}
 
 module _ (answer : ReadAnswer) (text held : List ℕ) where

@@ -17,7 +17,8 @@ use Rattle.description.specs.Listing.{recordsOf, wireOf}
 use Rattle.description.specs.Grammar.{Description, wiresOf, maskCount}
 use Rattle.verdict_lines.specs.Meaning.{SaysNotion}
 use Rattle.reader.specs.Answers.{refused, readText}
-use Rattle.report_lines.specs.Report.{orderLine, refusedLine, emptyTable, report}
+use Rattle.figure_lines.specs.Figures.{orderLine, refusedLine}
+use Rattle.report_lines.specs.Report.{emptyTable, report}
 
 abbrev pub tableOf : Description → List ℕ
 tableOf d = recordsOf (wiresOf d)

@@ -1,4 +1,4 @@
--- `report_lines::function_line` meets its contract: the name goes by the first function that the check says yes to.
+-- `figure_lines::function_line` meets its contract: the name goes by the first function that the check says yes to.
 -- Assumes nothing.
 use native.Mathlib.Omega.{arith}
 use mathlib.Core.Path.{_≡_, sym, _∙_}
@@ -7,14 +7,14 @@ use mathlib.Core.List.{List}
 use Prim.Native.Nat.{ℕ}
 use borrow.Author.Needs.{needs}
 use Rattle.pages.specs.Page.{Wrote}
-use Rattle.report_lines.specs.Report.{functionLine}
-use Rattle.report_lines.proofs.Saying.{Named, wrote-product, wrote-sum, wrote-last}
+use Rattle.figure_lines.specs.Figures.{functionLine}
+use Rattle.figure_lines.proofs.Saying.{Named, wrote-product, wrote-sum, wrote-last}
 use Rattle.pages.proofs.write_text.Reads as write-text
-use Rattle.report_lines.proofs.computes.Reads as computes
-use Rattle.report_lines.proofs.function_line.Reads as reads
-use Rattle.report_lines.proofs.function_line.Lts as lts
-use Rattle.report_lines.proofs.function_line.Statement.{statement}
-use Rattle.report_lines.proofs.function_line.Tie as tie
+use Rattle.figure_lines.proofs.computes.Reads as computes
+use Rattle.figure_lines.proofs.function_line.Reads as reads
+use Rattle.figure_lines.proofs.function_line.Lts as lts
+use Rattle.figure_lines.proofs.function_line.Statement.{statement}
+use Rattle.figure_lines.proofs.function_line.Tie as tie
 
 abbrev calls : lts.Claims
 calls = (computes.Asked, computes.Learnt, write-text.Asked, write-text.Learnt)

@@ -1,9 +1,9 @@
--- `report_lines::computes` meets its contract: it says what the function check's answer tells.
+-- `figure_lines::computes` meets its contract: it says what the function check's answer tells.
 -- Assumes nothing.
-use Rattle.report_lines.proofs.Saying.{yes-said, no-said, none-said}
+use Rattle.figure_lines.proofs.Saying.{yes-said, no-said, none-said}
 use borrow.Author.Needs.{needs}
-use Rattle.report_lines.proofs.computes.Statement.{statement}
-use Rattle.report_lines.proofs.computes.Tie as tie
+use Rattle.figure_lines.proofs.computes.Statement.{statement}
+use Rattle.figure_lines.proofs.computes.Tie as tie
 
 function-check-requires : tie.Need-function-check-requires
 function-check-requires c κs = search needs

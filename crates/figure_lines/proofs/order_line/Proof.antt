@@ -1,10 +1,10 @@
--- `report_lines::order_line` meets its contract: its parts are written one after the other.
+-- `figure_lines::order_line` meets its contract: its parts are written one after the other.
 -- Assumes nothing.
 use native.Mathlib.Omega.{arith}
 use Rattle.pages.proofs.Writing.{wrote-after}
 use borrow.Author.Needs.{needs}
-use Rattle.report_lines.proofs.order_line.Statement.{statement}
-use Rattle.report_lines.proofs.order_line.Tie as tie
+use Rattle.figure_lines.proofs.order_line.Statement.{statement}
+use Rattle.figure_lines.proofs.order_line.Tie as tie
 
 slice-aggregate-write-named : tie.Need-slice-aggregate-write-named
 slice-aggregate-write-named c = search needs

@@ -11,7 +11,7 @@ use Rattle.table.specs.declared.Refusal.{Refusal}
 use Rattle.table.specs.declared.FunctionAnswer.{FunctionAnswer}
 use Rattle.table.specs.Answers.{functionTold, functionCheck}
 use Rattle.pages.specs.Page.{Wrote}
-use Rattle.report_lines.specs.Report.{saysYes, functionLine}
+use Rattle.figure_lines.specs.Figures.{saysYes, functionLine}
 
 module _ (page : List ℕ) (at : ℕ) (after : List ℕ) (end : ℕ) where
   -- whether the function is the product, the sum, a copy
