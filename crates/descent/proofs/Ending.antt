@@ -25,8 +25,9 @@ use Rattle.parts.proofs.Members.{keep-below, rest, rest-parted}
 use Rattle.parts.proofs.Ranks.{members-at, rank-within}
 use Rattle.parts.proofs.Sums.{length-parted, length-some, length-none}
 use Rattle.parts.proofs.Cutting.{part-masked}
-use Rattle.descent.specs.Marks.{isChosen, Fits, Node, Settled, Looked}
-use Rattle.descent.proofs.Marking.{closed-not-chosen}
+use Rattle.choices.specs.Marks.{isChosen, Fits, Settled}
+use Rattle.descent.specs.Nodes.{Node, Looked}
+use Rattle.choices.proofs.Marking.{closed-not-chosen}
 
 module _ (notion : Notion) (table : List ℕ) (size top : ℕ) (marks : List ℕ) (sum : Sum) (paid left : ℕ)
     (node : Node notion table size top marks sum paid left) where

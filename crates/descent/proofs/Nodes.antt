@@ -19,8 +19,9 @@ use Rattle.records.specs.Layout.{wireAt, wireCount, termsOf}
 use Rattle.parts.specs.Parts.{Parted}
 use Rattle.parts.proofs.Members.{keep-below}
 use Rattle.parts.proofs.Sums.{sum-parted, paid-parted, length-parted, sum-one, paid-one, length-one}
-use Rattle.descent.specs.Marks.{isOpen, isChosen, Node}
-use Rattle.descent.proofs.Marking.{not-both, closed-not-chosen, chosen-other, closed-other, now-chosen, now-closed}
+use Rattle.choices.specs.Marks.{isOpen, isChosen}
+use Rattle.descent.specs.Nodes.{Node}
+use Rattle.choices.proofs.Marking.{not-both, closed-not-chosen, chosen-other, closed-other, now-chosen, now-closed}
 
 -- the chosen wires, with an open one more
 pub chosen-parted : (n : ℕ) (marks : List ℕ) (x : ℕ) → x < length marks → isOpen marks x ≡ true

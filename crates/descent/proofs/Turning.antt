@@ -29,8 +29,9 @@ use Rattle.breaking.specs.Breaking.{isBreaking}
 use Rattle.parts.specs.Parts.{members}
 use Rattle.parts.proofs.Members.{rest}
 use Rattle.parts.proofs.Cutting.{carrier}
-use Rattle.descent.specs.Marks.{isOpen, isChosen, Fits, Node, Looked}
-use Rattle.descent.proofs.Marking.{not-open, closed-not-open, open-other, now-closed, fits-with, fits-without}
+use Rattle.choices.specs.Marks.{isOpen, isChosen, Fits}
+use Rattle.descent.specs.Nodes.{Node, Looked}
+use Rattle.choices.proofs.Marking.{not-open, closed-not-open, open-other, now-closed, fits-with, fits-without}
 use Rattle.descent.proofs.Ending.{others}
 
 pub record Trying (test : List ℕ → Bool) (n size top : ℕ) (carry : ℕ → Bool) (first : List ℕ) (before : ℕ) (marks : List ℕ) (least limit : ℕ) : Type 0 where

@@ -24,8 +24,9 @@ use Rattle.breaking.proofs.Paying.{at-most}
 use Rattle.parts.specs.Parts.{members}
 use Rattle.carriers.specs.Carriers.{carries, highestAt, Carriers}
 use Rattle.carriers.proofs.Highest.{highest-most, highest-none, carrier-read}
-use Rattle.descent.specs.Marks.{isChosen, Node, Looked}
-use Rattle.descent.proofs.Marking.{read-open, read-not-open}
+use Rattle.choices.specs.Marks.{isChosen}
+use Rattle.descent.specs.Nodes.{Node, Looked}
+use Rattle.choices.proofs.Marking.{read-open, read-not-open}
 use Rattle.descent.proofs.Nodes.{node-chosen, node-closed}
 use Rattle.descent.proofs.Ending.{masked-end}
 use Rattle.descent.proofs.Turning.{Trying, Between, try-first, try-shut, try-open, try-last}

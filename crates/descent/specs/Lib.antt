@@ -1,3 +1,3 @@
 -- The definitions that the promises of `descent` cite.
---     Marks     the marks of a search, its nodes, and what is promised of a descent from one
-pub mod Marks
+--     Nodes     the nodes of a search, and what is promised of a descent from one
+pub mod Nodes

@@ -33,8 +33,9 @@ use Rattle.parts.specs.Parts.{members}
 use Rattle.parts.proofs.Members.{keep-below}
 use Rattle.parts.proofs.Ranks.{rank-within, test-at}
 use Rattle.parts.proofs.Sums.{sum-one, paid-one, length-one}
-use Rattle.descent.specs.Marks.{isOpen, isClosed, isChosen, Fits, Node, Looked}
-use Rattle.descent.proofs.Marking.{not-both, closed-not-chosen, chosen-other, open-other, closed-other, now-chosen, now-open, read-closed}
+use Rattle.choices.specs.Marks.{isOpen, isClosed, isChosen, Fits}
+use Rattle.descent.specs.Nodes.{Node, Looked}
+use Rattle.choices.proofs.Marking.{not-both, closed-not-chosen, chosen-other, open-other, closed-other, now-chosen, now-open, read-closed}
 use Rattle.directed_search.specs.Least.{LeastRank}
 
 pub record Rooted (top : ℕ) (marks : List ℕ) : Type 0 where

@@ -8,14 +8,14 @@ use borrow.Author.Tests.{not-true, not-false}
 use borrow.Fn.Kinds.{In}
 use borrow.Fn.PlainCycle.{Measures, is, falls, and}
 use Rattle.descent.proofs.Ending.{settled, dropped}
-use Rattle.descent.proofs.Settling.{last-masked}
+use Rattle.choices.proofs.Settling.{last-masked}
 use Rattle.descent.proofs.Turns.{few-wires, Descending, turn-first, turn-shut, turn-masked, turn-deep, turn-last, child, wire-in, wire-small, next-less, pay-few}
-use Rattle.descent.proofs.settle.Reads as settle-reads
+use Rattle.choices.proofs.settle.Reads as settle-reads
 use Rattle.breaking.proofs.is_masked.Reads as is-masked-reads
 use Rattle.rarity.proofs.rarest.Reads as rarest-reads
 use Rattle.carriers.proofs.highest_below.Reads as highest-below-reads
 use Rattle.records.proofs.sums.with_wire.Reads as with-wire-reads
-use Rattle.descent.proofs.leaves_masks.Reads as leaves-masks-reads
+use Rattle.choices.proofs.leaves_masks.Reads as leaves-masks-reads
 use Rattle.breaking.proofs.pay.Reads as pay-reads
 use Rattle.descent.proofs.descend.Reads as descend
 use Rattle.descent.proofs.descend.Kinds as descend-kinds

@@ -1,14 +1,14 @@
--- `descent::gather` meets its contract: before each turn the chosen wires among the first ones stand at the set's start.
+-- `choices::gather` meets its contract: before each turn the chosen wires among the first ones stand at the set's start.
 -- Assumes nothing.
 use Prim.Native.Nat.{_-_, _≤_, _<_}
 use native.Mathlib.Omega.{arith}
 use lib.ListN.{length}
 use borrow.Author.Needs.{needs}
-use Rattle.descent.specs.Marks.{isChosen}
-use Rattle.descent.proofs.Marking.{read-chosen, read-not-chosen}
-use Rattle.descent.proofs.Gathering.{Gathered, none-gathered, gather-room, gather-more, gather-less, gather-all}
-use Rattle.descent.proofs.gather.Statement.{statement}
-use Rattle.descent.proofs.gather.Tie as tie
+use Rattle.choices.specs.Marks.{isChosen}
+use Rattle.choices.proofs.Marking.{read-chosen, read-not-chosen}
+use Rattle.choices.proofs.Gathering.{Gathered, none-gathered, gather-room, gather-more, gather-less, gather-all}
+use Rattle.choices.proofs.gather.Statement.{statement}
+use Rattle.choices.proofs.gather.Tie as tie
 
 abbrev Inv-loop : tie.InvT-loop
 Inv-loop marks wires set₀ size₀ next₀ set size next = (next ≤ wires) × Gathered (isChosen marks) (length set₀) set size next

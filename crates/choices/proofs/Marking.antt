@@ -15,7 +15,7 @@ use lib.Dec.{eqb}
 use lib.ListN.{length, getD, set}
 use lib.Seq.{getD-set-same, getD-set-other}
 use Rattle.basics.proofs.Numbers.{alike}
-use Rattle.descent.specs.Marks.{isOpen, isClosed, isChosen, Fits}
+use Rattle.choices.specs.Marks.{isOpen, isClosed, isChosen, Fits}
 
 module _ (marks : List ℕ) (w : ℕ) where
   pub not-both : isOpen marks w ≡ true → isChosen marks w ≡ false

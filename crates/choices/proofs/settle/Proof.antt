@@ -1,9 +1,9 @@
--- `descent::settle` meets its contract: a rank counts where the sum breaks.
+-- `choices::settle` meets its contract: a rank counts where the sum breaks.
 -- Assumes nothing.
 use borrow.Author.Needs.{needs}
-use Rattle.descent.proofs.Settling.{lower-rank, higher-rank, no-break}
-use Rattle.descent.proofs.settle.Statement.{statement}
-use Rattle.descent.proofs.settle.Tie as tie
+use Rattle.choices.proofs.Settling.{lower-rank, higher-rank, no-break}
+use Rattle.choices.proofs.settle.Statement.{statement}
+use Rattle.choices.proofs.settle.Tie as tie
 
 sum-breaks-requires : tie.Need-sum-breaks-requires
 sum-breaks-requires c κs = search needs

@@ -1,9 +1,9 @@
--- `descent::leaves_masks` meets its contract: the masks count where the wire is the last one.
+-- `choices::leaves_masks` meets its contract: the masks count where the wire is the last one.
 -- Assumes nothing.
 use borrow.Author.Needs.{needs}
-use Rattle.descent.proofs.Settling.{not-last, at-last}
-use Rattle.descent.proofs.leaves_masks.Statement.{statement}
-use Rattle.descent.proofs.leaves_masks.Tie as tie
+use Rattle.choices.proofs.Settling.{not-last, at-last}
+use Rattle.choices.proofs.leaves_masks.Statement.{statement}
+use Rattle.choices.proofs.leaves_masks.Tie as tie
 
 returns : tie.Need-returns
 returns c = not-last _ _ (c .if1 .taken)

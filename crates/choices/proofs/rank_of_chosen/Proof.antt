@@ -1,11 +1,11 @@
--- `descent::rank_of_chosen` meets its contract: what is gathered is a set.
+-- `choices::rank_of_chosen` meets its contract: what is gathered is a set.
 -- Assumes nothing.
 use mathlib.Core.Path.{_∙_, ap}
 use borrow.Author.Needs.{needs}
 use Rattle.revolving.specs.Order.{rankOf}
-use Rattle.descent.proofs.Gathering.{lent-part, part-few, part-rising}
-use Rattle.descent.proofs.rank_of_chosen.Statement.{statement}
-use Rattle.descent.proofs.rank_of_chosen.Tie as tie
+use Rattle.choices.proofs.Gathering.{lent-part, part-few, part-rising}
+use Rattle.choices.proofs.rank_of_chosen.Statement.{statement}
+use Rattle.choices.proofs.rank_of_chosen.Tie as tie
 
 slice-aggregate-gather : tie.Need-slice-aggregate-gather
 slice-aggregate-gather c = search needs

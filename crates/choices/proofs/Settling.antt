@@ -9,7 +9,7 @@ use mathlib.Core.Bool.{Bool, true, false, _&&_, true≢false}
 use borrow.Author.Tests.{eqb-true, eq-eqb, ne-eqb}
 use lib.Dec.{eqb}
 use Rattle.basics.proofs.Tests.{and-left, and-right}
-use Rattle.descent.specs.Marks.{Settled}
+use Rattle.choices.specs.Marks.{Settled}
 
 pub lower-rank : (breaks told : Bool) (rank r before : ℕ) → told ≡ breaks → told ≡ true → r ≡ rank → r < before → Settled breaks rank before r
 lower-rank breaks told rank r before e broken is less = record {

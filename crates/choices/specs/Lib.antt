@@ -1,0 +1,3 @@
+-- The definitions that the promises of `choices` cite.
+--     Marks     the marks of a search, and what is kept of a rank
+pub mod Marks
