@@ -1,7 +1,5 @@
 -- What the line of a notion says of a watcher.
 --     holds-broken         a line that says holds is none that says broken
---     operands-named       which operand is named, by the two tests
---     word-says            what the word after a set that leaks says
 --     after-part           what does not come after a part of a set does not come after the set
 --     not-after            whether a set comes after another is decided by their sizes and ranks
 --     shown-first          the first breaking set comes after no set without a choice
@@ -32,49 +30,20 @@ use Rattle.verdict_answers.specs.Answers.{notionOf, written, firstShown, setDep
 use Rattle.verdict_answers.specs.Guarantee.{Watched, HasChoice}
 use Rattle.verdict_answers.specs.First.{NotAfter, FirstBreaking}
 use Rattle.verdict_answers.specs.Jobs.{Ordered}
-use Rattle.verdict_answers.specs.Dependence.{LeaksA, LeaksB, Leaking}
 use Rattle.verdict_answers.proofs.Conditions.{verdict-answered}
 use Rattle.verdict_answers.proofs.Watching.{pick-watched, all-choose, shown-none}
 use Rattle.verdict_answers.proofs.First.{first-is}
 use Rattle.verdict_answers.proofs.Dependence.{first-leaks}
 use Rattle.pages.specs.Page.{wireNumbers}
 use Rattle.pages.proofs.Writing.{apart}
-use Rattle.verdict_lines.specs.Lines.{operandsNamed, operands, notionName, verdictSaid, emptySet, notionLine}
-use Rattle.verdict_lines.specs.Meaning.{NamesOperands, SaysNotion}
+use Rattle.operand_words.specs.Operands.{operands}
+use Rattle.operand_words.proofs.Meaning.{word-says}
+use Rattle.verdict_lines.specs.Lines.{notionName, verdictSaid, emptySet, notionLine}
+use Rattle.verdict_lines.specs.Meaning.{SaysNotion}
 
 holds-broken : (name wires word : List ℕ) → name ++ (bytes " broken" ++ wires ++ word) ++ bytes "\n" ≡ name ++ bytes " holds" ++ bytes "\n" → ⊥
 holds-broken [] wires word e = apart 1 e refl
 holds-broken (c ∷ name) wires word e = holds-broken name wires word (ap (drop 1) e)
-
--- the three words differ in the byte after the second space, or in the one after that
-operands-named : (table : List ℕ) (shares masks notion : ℕ) (set : List ℕ) (a b : Bool) → (a ≡ true) ↔ LeaksA table shares masks notion set
-    → (b ≡ true) ↔ LeaksB table shares masks notion set → (a ≡ true) ⊎ (b ≡ true)
-    → NamesOperands table shares masks notion set (operandsNamed a b)
-operands-named table shares masks notion set true true leaks-a leaks-b some = record {
-  names-a = (λ e. leaks-a .0 refl, λ h. inr refl);
-  names-b = (λ e. leaks-b .0 refl, λ h. inr refl);
-  stands = inr (inr refl);
-}
-operands-named table shares masks notion set true false leaks-a leaks-b some = record {
-  names-a = (λ e. leaks-a .0 refl, λ h. inl refl);
-  names-b = (⊎-elim (λ e. absurd (apart 4 e refl)) (λ e. absurd (apart 4 e refl)), λ h. absurd (false≢true (leaks-b .1 h)));
-  stands = inl refl;
-}
-operands-named table shares masks notion set false true leaks-a leaks-b some = record {
-  names-a = (⊎-elim (λ e. absurd (apart 4 e refl)) (λ e. absurd (apart 5 e refl)), λ h. absurd (false≢true (leaks-a .1 h)));
-  names-b = (λ e. leaks-b .0 refl, λ h. inl refl);
-  stands = inr (inl refl);
-}
-operands-named table shares masks notion set false false leaks-a leaks-b some = absurd (⊎-elim false≢true false≢true some)
-
--- the word that stands after a set that leaks
-pub word-says : (table : List ℕ) (shares masks notion : ℕ) (set : List ℕ) → Leaking table shares masks notion set
-    → NamesOperands table shares masks notion set (operands (setDependence table shares masks notion set))
-word-says table shares masks notion set l =
-    subst (λ (t : Told). NamesOperands table shares masks notion set (operands t)) (sym (l .told))
-    (operands-named table shares masks notion set (ltb (l .most) (l .ofA)) (ltb (l .most) (l .ofB)) (Iff·trans (less (l .most) (l .ofA)) (l .by-a))
-    (Iff·trans (less (l .most) (l .ofB)) (l .by-b))
-    (⊎-elim (λ h. inl (lt-ltb (l .most) (l .ofA) h)) (λ h. inr (lt-ltb (l .most) (l .ofB) h)) (l .one)))
 
 after-part : (n : ℕ) (s u : List ℕ) (l : List Bool) → NotAfter n s (pick l u) → NotAfter n s u
 after-part n s u l = go (pick-size l u)

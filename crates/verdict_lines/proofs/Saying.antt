@@ -1,9 +1,7 @@
--- What the verdict and the set dependence tell, as it is written.
+-- What the verdict tells, as it is written.
 --     wrote-ni, wrote-sni                          the notion's name
---     wrote-operands                               the operands that are named
 --     take-few                                     the first elements of a list are no more than it has
 --     shown-few                                    a set that is shown has no more wires than the buffer has room for
---     depends-said, not-said                       which operands are named, by the answer
 --     holds-said, broken-said, refused-said        what a verdict says
 use Prim.Native.Nat.{ℕ, zero, suc, _-_, _≤_}
 use native.Mathlib.Omega.{arith}
@@ -11,19 +9,17 @@ use mathlib.Core.Path.{_≡_, sym, _∙_, ap, subst}
 use mathlib.Core.Bool.{Bool, cond}
 use mathlib.Core.List.{List, [], _∷_, _++_}
 use borrow.Author.Tests.{eq-eqb, ne-eqb}
-use lib.Dec.{ltb}
 use lib.ListN.{length, take}
 use Rattle.basics.specs.Quoted.{bytes}
 use Rattle.basics.specs.Told.{Told, Lent}
 use Rattle.verdict_answers.specs.declared.Refusal.{Refusal}
 use Rattle.verdict_answers.specs.declared.VerdictAnswer.{VerdictAnswer}
-use Rattle.verdict_answers.specs.declared.DependenceAnswer.{DependenceAnswer}
 use Rattle.verdict_answers.specs.Answers as verdicts
 use Rattle.verdict_answers.specs.Guarantee.{Guarantee}
 use Rattle.pages.specs.Decimal.{decimal}
 use Rattle.pages.specs.Page.{Wrote}
 use Rattle.pages.proofs.Writing.{part-start}
-use Rattle.verdict_lines.specs.Lines.{operandsNamed, operands, notionName, brokenSaid, verdictSaid}
+use Rattle.verdict_lines.specs.Lines.{notionName, brokenSaid, verdictSaid}
 
 module _ (page : List ℕ) (at : ℕ) (after : List ℕ) (end : ℕ) where
   pub wrote-ni : (notion : ℕ) → notion ≡ 1 → Wrote page at (bytes "NI") after end → Wrote page at (notionName notion) after end
@@ -31,11 +27,6 @@ module _ (page : List ℕ) (at : ℕ) (after : List ℕ) (end : ℕ) where
 
   pub wrote-sni : (notion : ℕ) → (notion ≡ 1 → ⊥) → Wrote page at (bytes "SNI") after end → Wrote page at (notionName notion) after end
   wrote-sni notion e w = subst (λ (b : Bool). Wrote page at (cond b (bytes "NI") (bytes "SNI")) after end) (sym (ne-eqb notion 1 e)) w
-
-  pub wrote-operands : (a b x y : Bool) → a ≡ x → b ≡ y → Wrote page at (operandsNamed x y) after end → Wrote page at (operandsNamed a b) after end
-  wrote-operands a b x y e f w =
-      subst (λ (k : Bool). Wrote page at (operandsNamed k b) after end) (sym e)
-      (subst (λ (k : Bool). Wrote page at (operandsNamed x k) after end) (sym f) w)
 
 take-few : (n : ℕ) (l : List ℕ) → length (take n l) ≤ length l
 take-few zero l = omega arith
@@ -66,17 +57,3 @@ module _ (depends : List ℕ → Told) (answer : VerdictAnswer) (held : List ℕ
         → Wrote page at (bytes " refused " ++ decimal number) after end → Wrote page at (verdictSaid depends lent) after end
     refused-said why number e f w =
         told-said (VerdictAnswer.Refused why) e (subst (λ (n : ℕ). Wrote page at (bytes " refused " ++ decimal n) after end) f w)
-
--- what is told of a set's dependence, by the answer
-module _ (answer : DependenceAnswer) (told : Told) (e : verdicts.dependenceTold answer ≡ told) (page : List ℕ) (at : ℕ) (after : List ℕ) (end : ℕ) where
-  told-operands : (of : DependenceAnswer) → answer ≡ of → Wrote page at (operands (verdicts.dependenceTold of)) after end
-      → Wrote page at (operands told) after end
-  told-operands of f w =
-      subst (λ (t : Told). Wrote page at (operands t) after end) (ap verdicts.dependenceTold (sym f) ∙ e) w
-
-  pub depends-said : (ofA ofB most : ℕ) (left : Bool) → answer ≡ DependenceAnswer.Depends ofA ofB most left
-      → Wrote page at (operandsNamed (ltb most ofA) (ltb most ofB)) after end → Wrote page at (operands told) after end
-  depends-said ofA ofB most left f w = told-operands (DependenceAnswer.Depends ofA ofB most left) f w
-
-  pub not-said : (why : Refusal) → answer ≡ DependenceAnswer.Refused why → Wrote page at [] after end → Wrote page at (operands told) after end
-  not-said why f w = told-operands (DependenceAnswer.Refused why) f w

@@ -1,15 +1,14 @@
 -- The line of a notion in a report (scope, "Report program and examples"; which operand leaks), over what the verdict and the set dependence are to
 -- tell.
 --     notionName                    NI or SNI
---     operandsNamed, operands       the operands that leak by a set, from what is told of its dependence
 --     brokenSaid                    the wires of a set that is shown, and these operands
 --     said, verdictSaid             what a verdict says
 --     emptySet                      what is lent to it
 --     notionLine                    the line
 use Prim.Native.Nat.{ℕ}
-use mathlib.Core.Bool.{Bool, true, false, cond}
+use mathlib.Core.Bool.{cond}
 use mathlib.Core.List.{List, [], _∷_, _++_}
-use lib.Dec.{eqb, ltb}
+use lib.Dec.{eqb}
 use lib.ListN.{take, replicate}
 use Rattle.limits.specs.Limits.{maxSize}
 use Rattle.basics.specs.Quoted.{bytes}
@@ -17,24 +16,10 @@ use Rattle.basics.specs.Told.{Told, Lent, values, refusal}
 use Rattle.verdict_answers.specs.Answers.{verdictOf, setDependence}
 use Rattle.pages.specs.Decimal.{decimal}
 use Rattle.pages.specs.Page.{wireNumbers}
+use Rattle.operand_words.specs.Operands.{operands}
 
 abbrev pub notionName : ℕ → List ℕ
 notionName notion = cond (eqb notion 1) (bytes "NI") (bytes "SNI")
-
--- the operands whose count exceeds what the notion allows the set; of a set that a verdict shows one does (`says`)
-abbrev pub operandsNamed : Bool → Bool → List ℕ
-operandsNamed true true = bytes " by both"
-operandsNamed true false = bytes " by a"
-operandsNamed false true = bytes " by b"
-operandsNamed false false = []
-
--- the counts of a and of b, and what the notion allows
-abbrev pub operands : Told → List ℕ
-operands (values (ofA ∷ ofB ∷ most ∷ more)) = operandsNamed (ltb most ofA) (ltb most ofB)
-operands (values (ofA ∷ ofB ∷ [])) = []
-operands (values (ofA ∷ [])) = []
-operands (values []) = []
-operands (refusal number) = []
 
 -- the numbers of the wires shown, and the operands that leak by them
 abbrev pub brokenSaid : (List ℕ → Told) → List ℕ → List ℕ

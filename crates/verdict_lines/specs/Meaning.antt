@@ -1,26 +1,18 @@
 -- What the line of a notion says of a watcher: no breaking set and no search in it.
---     NamesOperands      which operand is named, and what that says of the set
 --     Breaks             the set that is shown, and the operands named after it
 --     SaysNotion         holds exactly when every set to watch has a choice; else a break shows the first in the published order that has none
 use Prim.Native.Nat.{ℕ, _<_}
 use mathlib.Core.Path.{_≡_}
-use mathlib.Core.Logic.{_↔_, _⊎_}
+use mathlib.Core.Logic.{_↔_}
 use mathlib.Core.List.{List, _++_}
 use lib.ListN.{length}
 use Rattle.basics.specs.Quoted.{bytes}
 use Rattle.records.specs.Layout.{wireCount}
 use Rattle.verdict_answers.specs.Guarantee.{Watched, HasChoice}
 use Rattle.verdict_answers.specs.First.{NotAfter}
-use Rattle.verdict_answers.specs.Dependence.{LeaksA, LeaksB}
 use Rattle.pages.specs.Page.{wireNumbers}
+use Rattle.operand_words.specs.Operands.{NamesOperands}
 use Rattle.verdict_lines.specs.Lines.{notionName}
-
--- operand a is named exactly when the set admits no choice of shares even if every share of b may be chosen, b the other way round, and one of the
--- three words always stands
-pub record NamesOperands (table : List ℕ) (shares masks notion : ℕ) (set word : List ℕ) : Type 0 where
-  pub names-a : ((word ≡ bytes " by a") ⊎ (word ≡ bytes " by both")) ↔ LeaksA table shares masks notion set
-  pub names-b : ((word ≡ bytes " by b") ⊎ (word ≡ bytes " by both")) ↔ LeaksB table shares masks notion set
-  pub stands : (word ≡ bytes " by a") ⊎ ((word ≡ bytes " by b") ⊎ (word ≡ bytes " by both"))
 
 -- a line that does not say holds shows a set within the order that has no choice, and of all such sets the first in the published order: none has
 -- fewer wires, or as many and a lower rank

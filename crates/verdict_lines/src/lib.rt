@@ -1,15 +1,15 @@
 // The line of a notion in a report: what the verdict says, and of a break the wires and the operands that leak. It sees only what the verdict
-// and the set dependence promise, and asks for room on the page.
+// promises, and asks for room on the page.
 ghost use Prim.Native.Nat.{_≤_, _+_, _*_};
 ghost use lib.ListN.{length};
 ghost use Rattle.verdict_answers.specs.Answers.{verdictOf, setDependence};
 ghost use Rattle.pages.specs.Page.{Wrote};
-ghost use Rattle.verdict_lines.specs.Lines.{notionName, emptySet, operandsNamed, operands, brokenSaid, verdictSaid, notionLine};
+ghost use Rattle.verdict_lines.specs.Lines.{notionName, emptySet, brokenSaid, verdictSaid, notionLine};
 use limits::MAX_SIZE;
+use operand_words::operands_said;
 use pages::write_named;
 use pages::write_text;
 use pages::write_wires;
-use verdict_answers::DependenceAnswer;
 use verdict_answers::VerdictAnswer;
 
 // The verdict for NI, 1, or SNI, 2, at an order.
@@ -84,47 +84,4 @@ fn broken_said(
     let next = write_text(page, at, b" broken");
     let end = write_wires(page, next, set);
     operands_said(page, end, table, shares, masks, notion, set)
-}
-
-// The operands of which a set depends on more shares than the notion allows it.
-fn operands_said(
-    page: &mut [u8],
-    at: usize,
-    table: &[u8],
-    shares: usize,
-    masks: usize,
-    notion: usize,
-    set: &[u16],
-) -> usize
-    requires { ⌜ at + 8 ≤ length (now page) ⌝ }
-    ensures { λ r. ⌜ Wrote (now (page .entry)) at (operands (setDependence (now (table .entry)) shares masks notion (now (set .entry)))) (now (page .exit)) r ⌝ }
-    ensures { λ r. ⌜ r ≤ at + 8 ⌝ }
-{
-    let answer = verdict::set_dependence(table, shares, masks, notion, set);
-    match answer {
-        DependenceAnswer::Depends {
-            of_a,
-            of_b,
-            allowed,
-            masked,
-        } => operands_named(page, at, allowed < of_a, allowed < of_b),
-        DependenceAnswer::Refused(why) => at,
-    }
-}
-
-fn operands_named(page: &mut [u8], at: usize, a: bool, b: bool) -> usize
-    requires { ⌜ at + 8 ≤ length (now page) ⌝ }
-    ensures { λ r. ⌜ Wrote (now (page .entry)) at (operandsNamed a b) (now (page .exit)) r ⌝ }
-    ensures { λ r. ⌜ r ≤ at + 8 ⌝ }
-{
-    if a {
-        if b {
-            return write_text(page, at, b" by both");
-        }
-        return write_text(page, at, b" by a");
-    }
-    if b {
-        return write_text(page, at, b" by b");
-    }
-    at
 }

@@ -1,12 +1,12 @@
--- `verdict_lines::operands_named` meets its contract: the word by the two tests.
+-- `operand_words::operands_named` meets its contract: the word by the two tests.
 -- Assumes nothing.
 use native.Mathlib.Omega.{arith}
 use mathlib.Core.Bool.{true, false}
 use Rattle.pages.proofs.Writing.{wrote-nothing}
-use Rattle.verdict_lines.proofs.Saying.{wrote-operands}
+use Rattle.operand_words.proofs.Saying.{wrote-operands}
 use borrow.Author.Needs.{needs}
-use Rattle.verdict_lines.proofs.operands_named.Statement.{statement}
-use Rattle.verdict_lines.proofs.operands_named.Tie as tie
+use Rattle.operand_words.proofs.operands_named.Statement.{statement}
+use Rattle.operand_words.proofs.operands_named.Tie as tie
 
 slice-aggregate-write-text : tie.Need-slice-aggregate-write-text
 slice-aggregate-write-text c = search needs

@@ -1,11 +1,11 @@
--- `verdict_lines::operands_said` meets its contract: it says what is told of the set's dependence.
+-- `operand_words::operands_said` meets its contract: it says what is told of the set's dependence.
 -- Assumes nothing.
 use native.Mathlib.Omega.{arith}
 use Rattle.pages.proofs.Writing.{wrote-nothing}
-use Rattle.verdict_lines.proofs.Saying.{depends-said, not-said}
+use Rattle.operand_words.proofs.Saying.{depends-said, not-said}
 use borrow.Author.Needs.{needs}
-use Rattle.verdict_lines.proofs.operands_said.Statement.{statement}
-use Rattle.verdict_lines.proofs.operands_said.Tie as tie
+use Rattle.operand_words.proofs.operands_said.Statement.{statement}
+use Rattle.operand_words.proofs.operands_said.Tie as tie
 
 set-dependence-requires : tie.Need-set-dependence-requires
 set-dependence-requires c κs = search needs
