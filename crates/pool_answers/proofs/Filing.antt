@@ -1,6 +1,7 @@
 -- What is filed, and that a pool takes it.
 --     Writes                      a range check's answer with its found rank, and a report that the largest pool takes
 --     file-either, is-written     it is written, or nothing is
+--     writes-only                 by one found rank
 --     writes-stands               such a report exists exactly where the numbers could stand in some report
 --     filing-settled              which call gets which number
 use Prim.Native.Nat.{ℕ, _≤_, _<_}
@@ -146,6 +147,12 @@ module _ (notion size from to : ℕ) where
           → (w : Writes answer) × (bytes ≡ bytesOfReport (reportOf notion size from to (w .found)))
       go (inl w) = (w .0, ap (λ (a : Lent). a .held) (sym e ∙ w .2))
       go (inr n) = absurd (values-refusal [] 25 (ap (λ (a : Lent). a .told) (sym e ∙ n .1)))
+
+  -- a range check's answer has one found rank
+  pub writes-only : (answer : RangeAnswer) (v w : Writes answer) → v .found ≡ w .found
+  writes-only RangeAnswer.Clean v w = v .answered ∙ sym (w .answered)
+  writes-only (RangeAnswer.Found k rank) v w = v .answered .3 ∙ sym (w .answered .3)
+  writes-only (RangeAnswer.Refused why) v w = absurd (v .answered)
 
   -- ---- where the numbers could stand in some report
 

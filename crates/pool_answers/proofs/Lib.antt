@@ -4,8 +4,10 @@
 --     Agreeing     what they say of the table, if every clean report is true
 --     Filing       what is filed, and that a pool takes it
 --     Gathering    the reports of a search that is divided over jobs
+--     Taking       what a range check answered, filed, is a report that the pool takes
 pub mod Conditions
 pub mod Saying
 pub mod Agreeing
 pub mod Filing
 pub mod Gathering
+pub mod Taking
