@@ -5,9 +5,11 @@
 --     Filing       what is filed, and that a pool takes it
 --     Gathering    the reports of a search that is divided over jobs
 --     Taking       what a range check answered, filed, is a report that the pool takes
+--     Examples     examples, proved by running the definitions
 pub mod Conditions
 pub mod Saying
 pub mod Agreeing
 pub mod Filing
 pub mod Gathering
 pub mod Taking
+pub mod Examples
