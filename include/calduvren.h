@@ -40,8 +40,9 @@
  *   number of wires, and calduvren_job divides them for range checks. calduvren_directed_verdict gives the same verdict
  *   and looks at few of these sets where the table is that of a gadget, and so does a report; where most wires carry most
  *   masks they take longer than calduvren_verdict.
- * - `yes`, `holds` and `clean` are 1 where the answer is good and 0 where it is not, and so is `answer` where a pool holds:
- *   a caller that sets them to 0 beforehand takes no refusal for a good answer. A table of length 0 is a table of no wires, and holds.
+ * - `yes`, `holds` and `clean` are 1 where the answer is good and 0 where it is not, and a pool's `answer` is 1 where it
+ *   holds: a caller that sets them to 0 beforehand takes no refusal for a good answer. A table of length 0 is a table of
+ *   no wires, and holds.
  *
  * What a caller owes
  *
@@ -130,7 +131,7 @@ extern "C" {
 #define CALDUVREN_REFUSED_TEXT_PART 22        /* the wire's part lies outside the text */
 #define CALDUVREN_REFUSED_ISW_ORDER 23        /* order of the multiplication not 1 to 7 */
 #define CALDUVREN_REFUSED_ISW_ROOM 24         /* the multiplication's text is longer than the buffer lent for it */
-#define CALDUVREN_REFUSED_FILED_REPORT 25     /* reports no multiple of 32 bytes, or one of them not of the pool's form */
+#define CALDUVREN_REFUSED_FILED_REPORT 25     /* reports no multiple of 32 bytes, or one that no pool so asked takes */
 #define CALDUVREN_REFUSED_FIND 26             /* a report's found rank is not a breaking set */
 
 /* CALDUVREN_OK, or the number of a refusal. */
@@ -346,8 +347,8 @@ calduvren_status calduvren_filed_report(size_t notion, size_t size, uint64_t fro
  * broken are calduvren_verdict's answers, though the set that it shows may be an earlier one. A report does not name its
  * table: keep those of different tables apart.
  *
- * The list may have any length. Reports of each size in rising order are pooled in time linear in the list, other orders
- * take longer (65,536 reports of a size, in any order tried, well under a second).
+ * The list may have any length. Reports in rising or in falling order are pooled in time linear in the list; in any other
+ * order a pass over the list is made for some 256 reports of a size (65,536 shuffled ones: some tenth of a second).
  *
  * Written: answer. Where it is not CALDUVREN_POOL_HOLDS also size and rank.
  *
