@@ -5,15 +5,21 @@
  *   NI holds
  *   NI broken at size 1 rank 6, wires 6
  *   NI uncovered at size 2 rank 92: run job 1 again
- * The last says that no report is on these sets, as where a process was killed. Which process does a job, and how it
- * ended where it did not end well, is told on standard error. Machines may each do some of the jobs: their files are
- * pooled where they are brought together in one folder.
+ * The last says that this rank is the first that no report covers, as where a process was killed. Which process does a
+ * job, and how it ended where it did not end well, is told on standard error. Machines may each do some of the jobs:
+ * their files are pooled where they are brought together in one folder.
+ *
+ * What is found is checked again, a clean report is believed: whoever can write to the folder decides what holds. A job
+ * files only at its end, so that a kill loses all of its sizes. What a process had written when it was killed while it
+ * filed, as job-1-of-3.reports.4711 with the process at the end, stays in the folder and is not read.
  *
  * build: gcc -O2 -I include clients/c/divided.c -L target/staticlib -lcalduvren -o target/divided
  *        (in the repository's root; `rt staticlib calduvren` writes the library)
  * usage: target/divided FILE JOBS FOLDER          the jobs 0 to JOBS - 1, but for those whose file is in FOLDER already
  *        target/divided FILE JOBS FOLDER JOB      this job alone, also where its file is there
- * exit status: 0 both lines were printed; 1 the text is refused; 2 no answer, the reason is on standard error
+ *        target/divided FILE JOBS FOLDER pool     no job: what the files in FOLDER come to
+ * exit status: 0 each of the two lines says holds or broken; 3 one says uncovered, and the search is not complete;
+ *              1 the text is refused; 2 no answer, the reason is on standard error
  */
 #define _POSIX_C_SOURCE 200809L /* for processes and folders */
 #include <dirent.h>
@@ -97,8 +103,9 @@ static void name_of(char *name, size_t length, uint64_t job, uint64_t jobs)
     snprintf(name, length, "job-%" PRIu64 "-of-%" PRIu64 ENDING, job, jobs);
 }
 
-/* Checks the job's ranks of one size, and writes the report. Returns whether they are clean. */
-static int check_size(const struct gadget *g, size_t notion, size_t size, uint64_t job, uint64_t jobs, uint8_t *report)
+/* Checks the job's ranks of one size, and writes the report. */
+static void check_size(const struct gadget *g, size_t notion, size_t size, uint64_t job, uint64_t jobs,
+                       uint8_t *report)
 {
     uint16_t set[CALDUVREN_MAX_SIZE];
     uint64_t from = 0, to = 0, clean = 0, rank = 0;
@@ -107,7 +114,6 @@ static int check_size(const struct gadget *g, size_t notion, size_t size, uint64
     expect_answer(calduvren_range_check(g->table, CALDUVREN_RECORD_BYTES * g->wires, g->shares, g->masks, notion, size,
                                         from, to, set, CALDUVREN_MAX_SIZE, &clean, &found, &rank));
     expect_answer(calduvren_filed_report(notion, size, from, to, clean, rank, report, CALDUVREN_FILED_REPORT_BYTES));
-    return clean != 0;
 }
 
 /*
@@ -129,15 +135,17 @@ static void leave_file(const struct gadget *g, const char *name, const uint8_t *
     }
 }
 
-/* A notion that is broken is done with: a larger size would not change the answer. */
+/*
+ * All sizes, also above one that is broken: that the pool comes to the verdict's own answer is proved of the reports of
+ * all jobs of all sizes.
+ */
 static void do_job(const struct gadget *g, const char *name, uint64_t job, uint64_t jobs)
 {
     uint8_t reports[2 * CALDUVREN_MAX_ORDER * CALDUVREN_FILED_REPORT_BYTES];
     size_t length = 0;
     for (size_t notion = CALDUVREN_NI; notion <= CALDUVREN_SNI; notion++) {
-        int clean = 1;
-        for (size_t size = 1; size <= g->order && clean; size++) {
-            clean = check_size(g, notion, size, job, jobs, reports + length);
+        for (size_t size = 1; size <= g->order; size++) {
+            check_size(g, notion, size, job, jobs, reports + length);
             length += CALDUVREN_FILED_REPORT_BYTES;
         }
     }
@@ -150,8 +158,13 @@ static void do_job(const struct gadget *g, const char *name, uint64_t job, uint6
 static void await_one(struct crew *crew)
 {
     int status = 0;
-    pid_t ended = wait(&status);
+    pid_t ended = 0;
     size_t i = 0;
+    do {
+        ended = wait(&status);
+    } while (ended < 0 && errno == EINTR);
+    if (ended < 0 && errno != ECHILD)
+        give_up("the processes", strerror(errno));
     if (ended < 0) /* none is left, also where the system was told to keep nothing of them */
         crew->working = 0;
     while (i < crew->working && crew->process[i] != ended)
@@ -227,7 +240,8 @@ static void add_report(struct list *list, const uint8_t *report)
 
 /*
  * Adds a file's reports to those of NI and of SNI. They are pooled by themselves first, so that the file is named where
- * one of them is refused. So is what follows the text in the file of a longer one: no text has a byte 1 or 2.
+ * one of them is refused. So is what follows the text in the file of a longer one: no text that is read has a byte 1
+ * or 2.
  */
 static void add_file(const struct gadget *g, const char *name, struct list *lists)
 {
@@ -279,8 +293,8 @@ static uint64_t job_of(const struct gadget *g, size_t size, uint64_t rank, uint6
     return job;
 }
 
-static void print_answer(const struct gadget *g, const char *name, size_t notion, const struct list *list,
-                         uint64_t jobs)
+/* Returns whether the notion is covered: it holds, or it is broken. */
+static int print_answer(const struct gadget *g, const char *name, size_t notion, const struct list *list, uint64_t jobs)
 {
     uint16_t set[CALDUVREN_MAX_SIZE];
     uint64_t answer = 0, rank = 0;
@@ -298,12 +312,14 @@ static void print_answer(const struct gadget *g, const char *name, size_t notion
             printf(i + 1 < size ? " %u" : " %u\n", (unsigned)set[i]);
     }
     flush();
+    return answer != CALDUVREN_POOL_UNCOVERED;
 }
 
-/* Makes the folder, unless it is there, and goes to it. */
-static void enter(const char *folder)
+/* Goes to the folder. Where jobs will be run it is made, unless it is there; a pool of a folder that is not there would
+ * only say that all is uncovered. */
+static void enter(const char *folder, int make)
 {
-    if ((mkdir(folder, 0777) != 0 && errno != EEXIST) || chdir(folder) != 0)
+    if ((make && mkdir(folder, 0777) != 0 && errno != EEXIST) || chdir(folder) != 0)
         give_up(folder, strerror(errno));
 }
 
@@ -312,9 +328,11 @@ int main(int argument_count, char **arguments)
     static struct gadget g;
     static struct list lists[2];
     if (argument_count != 4 && argument_count != 5)
-        give_up("usage", "divided FILE JOBS FOLDER [JOB]");
+        give_up("usage", "divided FILE JOBS FOLDER [JOB or pool]");
     uint64_t jobs = number_of(arguments[2], 1, CALDUVREN_MAX_JOBS);
-    uint64_t job = argument_count == 5 ? number_of(arguments[4], 0, jobs - 1) : 0;
+    int pool_only = argument_count == 5 && strcmp(arguments[4], "pool") == 0;
+    int one_job = argument_count == 5 && !pool_only;
+    uint64_t job = one_job ? number_of(arguments[4], 0, jobs - 1) : 0;
     read_file(&g, arguments[1]);
     size_t offset = 0;
     calduvren_status status = calduvren_read_text(g.text, g.text_length, g.table, sizeof g.table,
@@ -324,11 +342,13 @@ int main(int argument_count, char **arguments)
         flush();
         return 1;
     }
-    enter(arguments[3]);
+    enter(arguments[3], !pool_only);
     gather(&g, lists); /* a folder that can not be pooled is told before the work, not after it */
-    run_jobs(&g, job, argument_count == 5 ? job + 1 : jobs, jobs, argument_count == 5);
-    gather(&g, lists);
-    print_answer(&g, "NI", CALDUVREN_NI, &lists[0], jobs);
-    print_answer(&g, "SNI", CALDUVREN_SNI, &lists[1], jobs);
-    return 0;
+    if (!pool_only) {
+        run_jobs(&g, job, one_job ? job + 1 : jobs, jobs, one_job);
+        gather(&g, lists);
+    }
+    int ni_covered = print_answer(&g, "NI", CALDUVREN_NI, &lists[0], jobs);
+    int sni_covered = print_answer(&g, "SNI", CALDUVREN_SNI, &lists[1], jobs);
+    return ni_covered && sni_covered ? 0 : 3;
 }
