@@ -5,13 +5,14 @@
 --     report-written    the writes of a report, one after the other
 --     Fits, read-written     numbers that fit their bytes are read as they were written
 --     read-at           a report that stands in a list is the one that was written
+--     reports-none, reports-more     the reports of a list, one after the other
 use Prim.Native.Nat.{ℕ, suc, _+_, _*_, _/_, _^_, _≤_, _<_}
 use native.Mathlib.Nat.{div-mul-le-self}
 use native.Mathlib.Omega.{arith}
 use mathlib.Core.Path.{_≡_, refl, sym, _∙_, ap}
 use mathlib.Core.List.{List, [], _∷_, _++_, append-nil}
-use lib.ListN.{length, take, drop, getD, take-append-drop}
-use lib.Seq.{sets, sets-eq, drop-cons, drop-drop, drop-length}
+use lib.ListN.{length, take, drop, getD, length-append, length-drop, take-append-drop}
+use lib.Seq.{sets, sets-eq, drop-cons, drop-drop, drop-length, take-append-le, drop-append-le, drop-append-add}
 use Rattle.records.specs.Words.{number, bytesOf}
 use Rattle.records.proofs.Fields.{byte-at}
 use Rattle.record_words.proofs.Written.{written-after}
@@ -111,3 +112,25 @@ read-at reports i r h e =
     moved (reportBytes * i) reports
     ∙ ap (reportFrom 0) (sym (take-append-drop reportBytes here) ∙ ap {B = List ℕ} (λ (l : List ℕ). l ++ drop reportBytes here) e)
     ∙ read-front r (drop reportBytes here) h
+
+-- ---- a list, report by report
+
+pub reports-none : reportCount [] ≡ 0
+reports-none = refl
+
+-- a list has one report more than what follows its first 32 bytes, that of these bytes, and then the others in their order
+pub reports-more : (b l : List ℕ) → length b ≡ reportBytes
+    → (reportCount (b ++ l) ≡ suc (reportCount l)) × (reportAt (b ++ l) 0 ≡ reportFrom 0 b) × ((i : ℕ) → reportAt (b ++ l) (suc i) ≡ reportAt l i)
+reports-more b l e = (
+  ap (λ (n : ℕ). n / reportBytes) (length-append b l) ∙ omega (arith, e),
+  fields (front 0 1 (omega arith)) (front 1 1 (omega arith)) (front 2 6 (omega arith)) (front 8 8 (omega arith)) (front 16 8 (omega arith))
+      (front 24 8 (omega arith)),
+  λ i. let at : reportBytes * suc i ≡ length b + reportBytes * i = omega (arith, e) in
+      moved (reportBytes * suc i) (b ++ l)
+      ∙ ap (reportFrom 0) (ap (λ (k : ℕ). drop k (b ++ l)) at ∙ drop-append-add b l (reportBytes * i)) ∙ sym (moved (reportBytes * i) l),
+)
+  where
+    front : (k n : ℕ) → k + n ≤ reportBytes → number (take n (drop k (b ++ l))) ≡ number (take n (drop k b))
+    front k n h =
+        ap (λ (m : List ℕ). number (take n m)) (drop-append-le k b l (omega (arith, h, e)))
+        ∙ ap number (take-append-le n (drop k b) l (omega (arith, h, e, length-drop k b)))

@@ -1,6 +1,7 @@
 -- The answers of the writing of a report, path by path.
 --     notion-low, notion-high, not-taken, taken       of a report with its found rank
 --     wrong-length, refused-answer, other-size, found-low, found-high, clean-filed, found-filed     of what a range check answered
+--     promised                     the whole of the promise follows from its equation
 use Prim.Native.Nat.{ℕ, _≤_, _<_}
 use native.Mathlib.Omega.{arith}
 use mathlib.Core.Path.{_≡_, refl, sym, _∙_, ap}
@@ -18,8 +19,10 @@ use Rattle.filed_reports.specs.Filed.{misfiled}
 use Rattle.filed_reports.proofs.Filed.{misfiled-exactly, filed-exactly}
 use Rattle.verdict_answers.specs.declared.Refusal.{Refusal}
 use Rattle.verdict_answers.specs.declared.RangeAnswer.{RangeAnswer}
-use Rattle.pool_answers.specs.Answers.{reportOf, written, filedAs, answerFiled, filedReport}
-use Rattle.pool_answers.proofs.Filing.{Fileable, filed-yes, filed-no}
+use Rattle.pool_answers.specs.declared.FilingAnswer.{FilingAnswer}
+use Rattle.pool_answers.specs.Answers.{reportOf, filingTold, filedAs, answerFiled, filedReport}
+use Rattle.pool_answers.specs.Says.{FilingMeans}
+use Rattle.pool_answers.proofs.Filing.{filed-yes, filed-no, filing-means}
 
 module _ (notion size from to found : ℕ) (buffer : List ℕ) where
   abbrev r : Report
@@ -102,3 +105,10 @@ module _ (notion size from to : ℕ) (answer : RangeAnswer) (buffer : List ℕ) 
       found-filed same low high l f =
           f ∙ by true (ap (λ (b : Bool). b && (leb from rank && ltb rank to)) (eq-eqb k size same)
           ∙ ap (λ (b : Bool). b && ltb rank to) (le-leb from rank low) ∙ lt-ltb rank to high)
+
+-- ---- the whole of the promise
+
+pub promised : (notion size from to : ℕ) (answer : RangeAnswer) (buffer : List ℕ) (told : FilingAnswer) (held : List ℕ)
+    → filingTold told held ≡ filedReport notion size from to answer buffer
+    → (filingTold told held ≡ filedReport notion size from to answer buffer) × FilingMeans told notion size from to answer buffer held
+promised notion size from to answer buffer told held e = (e, filing-means notion size from to answer buffer told held e)

@@ -4,6 +4,7 @@ ghost use mathlib.Core.Path.{_≡_};
 ghost use lib.ListN.{length};
 ghost use Rattle.filed_reports.specs.Bytes.{reportBytes};
 ghost use Rattle.pool_answers.specs.Answers.{filingTold, reportOf, filedAs, filedReport};
+ghost use Rattle.pool_answers.specs.Says.{FilingMeans};
 use filed_reports::CLEAN;
 use filed_reports::REPORT_BYTES;
 use filed_reports::Report;
@@ -59,6 +60,7 @@ pub fn filed_report(
     report: &mut [u8],
 ) -> FilingAnswer
     ensures { λ r. ⌜ filingTold r (now (report .exit)) ≡ filedReport notion size from to answer (now (report .entry)) ⌝ }
+    ensures { λ r. ⌜ FilingMeans r notion size from to answer (now (report .entry)) (now (report .exit)) ⌝ }
 {
     if report.len() != REPORT_BYTES {
         return FilingAnswer::Refused(Refusal::Misfiled);
@@ -70,7 +72,7 @@ pub fn filed_report(
             if wires != size {
                 return FilingAnswer::Refused(Refusal::Misfiled);
             }
-            // all ones bits would say clean
+            // a rank of all ones bits, written as it is, would read as clean
             if rank < from {
                 return FilingAnswer::Refused(Refusal::Misfiled);
             }

@@ -29,6 +29,7 @@ use Rattle.filed_reports.specs.declared.Report.{Report}
 use Rattle.filed_reports.specs.Bytes.{allOnes, reportAt, reportCount}
 use Rattle.filed_reports.specs.Filed.{Finds}
 use Rattle.verdict_answers.specs.Answers.{notionOf, firstShown, verdictOf}
+use Rattle.verdict_answers.specs.First.{NotAfter}
 use Rattle.verdict_answers.specs.Guarantee.{Watched, HasChoice}
 use Rattle.verdict_answers.specs.Jobs.{nothing, broken, Ordered, Asked}
 use Rattle.verdict_answers.proofs.Accepting.{shown-nil}
@@ -119,15 +120,18 @@ module _ (table : List ℕ) (shares masks notion order : ℕ) (reports : List �
     unfolding isBreaking
     found-leaks = no-choice (notionOf notion) shares masks (map (wireAt table) set) found-breaks
 
-    found-shown : (buffer : List ℕ) → order ≤ length buffer → (s : List ℕ) × (verdictOf table shares masks notion order buffer ≡ broken s buffer)
+    abbrev Shows : List ℕ → Type 0
+    Shows buffer = (s : List ℕ) × (verdictOf table shares masks notion order buffer ≡ broken s buffer) × NotAfter n s set
+
+    found-shown : (buffer : List ℕ) → order ≤ length buffer → Shows buffer
     found-shown buffer h = go (keep test (searched n order)) refl
       where
-        go : (l : List (List ℕ)) → keep test (searched n order) ≡ l → (s : List ℕ) × (verdictOf table shares masks notion order buffer ≡ broken s buffer)
+        go : (l : List (List ℕ)) → keep test (searched n order) ≡ l → Shows buffer
         go [] e = absurd (true≢false (sym found-breaks ∙ watching.all-whole table shares masks notion order e set found-watched))
-        go (s ∷ later) e = (
-          s,
-          verdict-answered table shares masks notion order buffer (ordered buffer h) ∙ ap (λ (l : List (List ℕ)). firstShown l buffer) e,
-        )
+        go (s ∷ later) e =
+            let shown = verdict-answered table shares masks notion order buffer (ordered buffer h) ∙ ap (λ (l : List (List ℕ)). firstShown l buffer) e in
+            let first = first.shows-exactly table shares masks notion order buffer (ordered buffer h) s .0 shown in
+            (s, shown, first .first set found-watched found-breaks)
 
 -- ---- of the code's answer
 
@@ -158,7 +162,12 @@ module _ (table : List ℕ) (shares masks notion order : ℕ) (reports : List �
               found-breaks table shares masks notion order reports p size rank f,
               found-leaks table shares masks notion order reports p size rank f,
             ));
-        shows = λ k r same. found-shown table shares masks notion order reports p size rank f;
+        shows = λ k r same. let i : size ≡ k = cc in let j : rank ≡ r = cc in
+            subst (λ (x : ℕ). (buffer : List ℕ) → order ≤ length buffer → (set : List ℕ)
+            × (verdictOf table shares masks notion order buffer ≡ broken set buffer) × NotAfter (wireCount table) set (setAt (wireCount table) k x)) j
+            (subst (λ (x : ℕ). (buffer : List ℕ) → order ≤ length buffer → (set : List ℕ)
+            × (verdictOf table shares masks notion order buffer ≡ broken set buffer) × NotAfter (wireCount table) set (setAt (wireCount table) x rank)) i
+            (found-shown table shares masks notion order reports p size rank f));
       }
   pool-agrees (PoolAnswer.Uncovered size rank) e = record {
     holds = λ same. let z : _≡_ {A = ℕ} 0 1 = cc in absurd (omega (arith, z));

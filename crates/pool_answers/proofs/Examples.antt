@@ -64,7 +64,9 @@ pub numbers : (poolTold PoolAnswer.Holds ≡ values (1 ∷ [])) × (poolTold (Po
     × (map refusalNumber (Tests NoSuchNotion ∷ Misfiled ∷ FalseFind ∷ []) ≡ 14 ∷ 25 ∷ 26 ∷ [])
 numbers = (refl, refl, refl, refl)
 
--- the report of size 2, ranks 3 to 300, found at 259: little-endian
-pub filed-bytes : bytesOfReport (reportOf 2 2 3 300 259)
-    ≡ 2 ∷ 2 ∷ 0 ∷ 0 ∷ 0 ∷ 0 ∷ 0 ∷ 0 ∷ 3 ∷ 0 ∷ 0 ∷ 0 ∷ 0 ∷ 0 ∷ 0 ∷ 0 ∷ 44 ∷ 1 ∷ 0 ∷ 0 ∷ 0 ∷ 0 ∷ 0 ∷ 0 ∷ 3 ∷ 1 ∷ 0 ∷ 0 ∷ 0 ∷ 0 ∷ 0 ∷ 0 ∷ []
-filed-bytes = refl
+-- of NI, size 2, ranks 3 to 300, found at 259, and of SNI, size 1, clean: little-endian
+pub filed-bytes : (bytesOfReport (reportOf 1 2 3 300 259)
+    ≡ 1 ∷ 2 ∷ 0 ∷ 0 ∷ 0 ∷ 0 ∷ 0 ∷ 0 ∷ 3 ∷ 0 ∷ 0 ∷ 0 ∷ 0 ∷ 0 ∷ 0 ∷ 0 ∷ 44 ∷ 1 ∷ 0 ∷ 0 ∷ 0 ∷ 0 ∷ 0 ∷ 0 ∷ 3 ∷ 1 ∷ 0 ∷ 0 ∷ 0 ∷ 0 ∷ 0 ∷ 0 ∷ [])
+    × (bytesOfReport (reportOf 2 1 0 5 allOnes)
+    ≡ 2 ∷ 1 ∷ 0 ∷ 0 ∷ 0 ∷ 0 ∷ 0 ∷ 0 ∷ 0 ∷ 0 ∷ 0 ∷ 0 ∷ 0 ∷ 0 ∷ 0 ∷ 0 ∷ 5 ∷ 0 ∷ 0 ∷ 0 ∷ 0 ∷ 0 ∷ 0 ∷ 0 ∷ 255 ∷ 255 ∷ 255 ∷ 255 ∷ 255 ∷ 255 ∷ 255 ∷ 255 ∷ [])
+filed-bytes = (refl, refl)

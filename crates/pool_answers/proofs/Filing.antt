@@ -1,11 +1,14 @@
 -- What is filed, and that a pool takes it.
 --     Writes                      a range check's answer with its found rank, and a report that the largest pool takes
---     file-either, is-written     it is written, or nothing is
+--     filed-fits                  what is filed is read as it was written
+--     Written, NotWritten, file-either, is-written     it is written, or nothing is
 --     writes-only                 by one found rank
 --     writes-stands               such a report exists exactly where the numbers could stand in some report
 --     filing-settled              which call gets which number
-use Prim.Native.Nat.{ℕ, _≤_, _<_}
+--     filing-means                what the code's answer says
+use Prim.Native.Nat.{ℕ, _^_, _≤_, _<_}
 use native.Mathlib.Nat.{le-refl, le-trans}
+use native.Mathlib.Omega.{arith}
 use mathlib.Core.Path.{_≡_, refl, sym, _∙_, ap, subst}
 use mathlib.Core.Logic.{_↔_, _⊎_, inl, inr, ⊎-elim}
 use mathlib.Core.Bool.{Bool, true, false, cond, not, _&&_, _||_, true≢false}
@@ -19,16 +22,19 @@ use Rattle.basics.specs.Conditions.{First, None, SettlesLent}
 use Rattle.basics.proofs.Conditions.{equal, less, least, neither, both, fails, one-of, not-both, not-least, not-less, values-refusal}
 use Rattle.basics.proofs.Numbers.{alike}
 use Rattle.counts.specs.Counts.{binom}
-use Rattle.counts.proofs.Binomial.{binom-wider}
+use Rattle.counts.proofs.Binomial.{largest, counts-fit, binom-wider}
 use Rattle.filed_reports.specs.declared.Report.{Report}
-use Rattle.filed_reports.specs.Bytes.{reportBytes, allOnes, bytesOfReport}
+use Rattle.filed_reports.specs.Bytes.{reportBytes, allOnes, reportAt, bytesOfReport}
 use Rattle.filed_reports.specs.Filed.{misfiled, Filed, Misfiled}
+use Rattle.filed_reports.proofs.Bytes.{Fits, read-written}
 use Rattle.filed_reports.proofs.Filed.{misfiled-exactly, filed-exactly}
 use Rattle.verdict_answers.specs.declared.RangeAnswer.{RangeAnswer}
 use Rattle.verdict_answers.specs.Answers.{wrongNotion}
 use Rattle.verdict_answers.specs.Conditions.{WrongNotion}
-use Rattle.pool_answers.specs.Answers.{reportOf, written, filedAs, answerFiled, filedReport}
-use Rattle.pool_answers.specs.Conditions.{Answered, Stands, filingConditions}
+use Rattle.pool_answers.specs.declared.FilingAnswer.{FilingAnswer}
+use Rattle.pool_answers.specs.Answers.{refusalNumber, reportOf, written, filingTold, filedAs, answerFiled, filedReport}
+use Rattle.pool_answers.specs.Conditions.{Answered, CouldStand, filingConditions}
+use Rattle.pool_answers.specs.Says.{FilingMeans}
 
 -- ---- a report of which only the found rank is left open
 
@@ -76,6 +82,29 @@ module _ (r : Report) where
       go true e = no (λ f. true≢false (sym e ∙ fileable-exactly .1 f))
       go false e = yes (fileable-exactly .0 e)
 
+-- ---- it is read as it was written
+
+pub filed-fits : (r : Report) → Fileable r → Fits r
+filed-fits r f =
+    let most : binom maxWires (r .size) < largest = counts-fit maxWires (r .size) (le-refl maxWires) (f .filed .high) in
+    record {
+      notion = notion (alike (r .notion) 1) (alike (r .notion) 2);
+      size = omega (arith, f .filed .high);
+      filling = let z = f .filed .blank in omega (arith, z);
+      from = omega (arith, f .filed .rises, f .filed .ends, most);
+      to = omega (arith, f .filed .ends, most);
+      found = found most (alike (r .found) allOnes);
+    }
+  where
+    notion : Dec (r .notion ≡ 1) → Dec (r .notion ≡ 2) → r .notion < 256
+    notion (yes e) x = omega (arith, e)
+    notion (no d) (yes e) = omega (arith, e)
+    notion (no d) (no e) = absurd (f .known (d, e))
+
+    found : binom maxWires (r .size) < largest → Dec (r .found ≡ allOnes) → r .found < 256 ^ 8
+    found most (yes e) = omega (arith, e)
+    found most (no d) = let inside = f .filed .inside d in omega (arith, inside .1, f .filed .ends, most)
+
 -- ---- of an answer
 
 module _ (notion size from to : ℕ) where
@@ -118,11 +147,17 @@ module _ (notion size from to : ℕ) where
           file-told (RangeAnswer.Found k rank) rank buffer (i .0, i .1 .0, i .1 .1, refl) (λ w. w .answered .3)
   answer-told (RangeAnswer.Refused why) buffer = inr (λ w. w .answered, refl)
 
+  abbrev pub Written : RangeAnswer → List ℕ → Type 0
+  Written answer buffer = (w : Writes answer) × (length buffer ≡ reportBytes)
+      × (filedReport notion size from to answer buffer ≡ written (reportOf notion size from to (w .found)))
+
+  abbrev pub NotWritten : RangeAnswer → List ℕ → Type 0
+  NotWritten answer buffer =
+      ((length buffer ≡ reportBytes → ⊥) ⊎ (Writes answer → ⊥)) × (filedReport notion size from to answer buffer ≡ turnedDown 25 buffer)
+
   -- which of the two it is
   pub file-either : (answer : RangeAnswer) (buffer : List ℕ)
-      → ((w : Writes answer) × (length buffer ≡ reportBytes)
-      × (filedReport notion size from to answer buffer ≡ written (reportOf notion size from to (w .found))))
-      ⊎ (((length buffer ≡ reportBytes → ⊥) ⊎ (Writes answer → ⊥)) × (filedReport notion size from to answer buffer ≡ turnedDown 25 buffer))
+      → Written answer buffer ⊎ NotWritten answer buffer
   file-either answer buffer = go (alike (length buffer) reportBytes) (answer-told answer buffer)
     where
       long : (b : Bool) → eqb (length buffer) reportBytes ≡ b
@@ -130,9 +165,7 @@ module _ (notion size from to : ℕ) where
       long b e = ap (λ (x : Bool). cond (not x) (turnedDown 25 buffer) (answerFiled notion size from to answer buffer)) e
 
       go : Dec (length buffer ≡ reportBytes) → Told answer buffer (answerFiled notion size from to answer buffer)
-          → ((w : Writes answer) × (length buffer ≡ reportBytes)
-          × (filedReport notion size from to answer buffer ≡ written (reportOf notion size from to (w .found))))
-          ⊎ (((length buffer ≡ reportBytes → ⊥) ⊎ (Writes answer → ⊥)) × (filedReport notion size from to answer buffer ≡ turnedDown 25 buffer))
+          → Written answer buffer ⊎ NotWritten answer buffer
       go (no d) t = inr (inl d, long false (ne-eqb (length buffer) reportBytes d))
       go (yes e) (inl w) = inl (w .0, e, long true (eq-eqb (length buffer) reportBytes e) ∙ w .1)
       go (yes e) (inr n) = inr (inr (n .0), long true (eq-eqb (length buffer) reportBytes e) ∙ n .1)
@@ -141,9 +174,7 @@ module _ (notion size from to : ℕ) where
       → (w : Writes answer) × (bytes ≡ bytesOfReport (reportOf notion size from to (w .found)))
   is-written answer buffer bytes e = go (file-either answer buffer)
     where
-      go : ((w : Writes answer) × (length buffer ≡ reportBytes)
-          × (filedReport notion size from to answer buffer ≡ written (reportOf notion size from to (w .found))))
-          ⊎ (((length buffer ≡ reportBytes → ⊥) ⊎ (Writes answer → ⊥)) × (filedReport notion size from to answer buffer ≡ turnedDown 25 buffer))
+      go : Written answer buffer ⊎ NotWritten answer buffer
           → (w : Writes answer) × (bytes ≡ bytesOfReport (reportOf notion size from to (w .found)))
       go (inl w) = (w .0, ap (λ (a : Lent). a .held) (sym e ∙ w .2))
       go (inr n) = absurd (values-refusal [] 25 (ap (λ (a : Lent). a .told) (sym e ∙ n .1)))
@@ -156,7 +187,7 @@ module _ (notion size from to : ℕ) where
 
   -- ---- where the numbers could stand in some report
 
-  pub writes-stands : (answer : RangeAnswer) → Writes answer ↔ Stands notion size from to answer
+  pub writes-stands : (answer : RangeAnswer) → Writes answer ↔ CouldStand notion size from to answer
   writes-stands answer = (
     λ w. record {
       found = w .found;
@@ -191,11 +222,9 @@ module _ (notion size from to : ℕ) where
   filing-settled answer buffer = go (file-either answer buffer)
     where
       Wrong : Type 0
-      Wrong = (length buffer ≡ reportBytes → ⊥) ⊎ (Stands notion size from to answer → ⊥)
+      Wrong = (length buffer ≡ reportBytes → ⊥) ⊎ (CouldStand notion size from to answer → ⊥)
 
-      go : ((w : Writes answer) × (length buffer ≡ reportBytes)
-          × (filedReport notion size from to answer buffer ≡ written (reportOf notion size from to (w .found))))
-          ⊎ (((length buffer ≡ reportBytes → ⊥) ⊎ (Writes answer → ⊥)) × (filedReport notion size from to answer buffer ≡ turnedDown 25 buffer))
+      go : Written answer buffer ⊎ NotWritten answer buffer
           → SettlesLent (filingConditions notion size from to answer buffer) buffer (filedReport notion size from to answer buffer)
       go (inl w) =
           let told = ap (λ (a : Lent). a .told) (w .2) in
@@ -218,3 +247,40 @@ module _ (notion size from to : ℕ) where
             };
             kept = λ k e. ap (λ (a : Lent). a .held) (n .1);
           }
+
+  -- what the code's answer says
+  pub filing-means : (answer : RangeAnswer) (buffer : List ℕ) (told : FilingAnswer) (held : List ℕ)
+      → filingTold told held ≡ filedReport notion size from to answer buffer → FilingMeans told notion size from to answer buffer held
+  filing-means answer buffer FilingAnswer.Filed held e =
+      let w = is-written answer buffer held (sym e) in
+      let r = reportOf notion size from to (w .0 .found) in
+      record {
+        files-exactly = (λ same. (long (file-either answer buffer), writes-stands answer .0 (w .0)), λ h. refl);
+        written = λ same. (
+          ap length (w .1),
+          (w .0 .found, w .0 .answered, ap (λ (l : List ℕ). reportAt l 0) (w .1) ∙ read-written r (filed-fits r (w .0 .fileable))),
+        );
+        refused = λ why same. let z : _≡_ {A = ℕ} 0 1 = cc in absurd (absurd-one z);
+      }
+    where
+      absurd-one : _≡_ {A = ℕ} 0 1 → ⊥
+      absurd-one z = omega (arith, z)
+
+      long : Written answer buffer ⊎ NotWritten answer buffer → length buffer ≡ reportBytes
+      long (inl w) = w .1
+      long (inr n) = absurd (values-refusal [] 25 (ap (λ (a : Lent). a .told) (e ∙ n .1)))
+  filing-means answer buffer (FilingAnswer.Refused why) held e = go (file-either answer buffer)
+    where
+      absurd-one : _≡_ {A = ℕ} 0 1 → ⊥
+      absurd-one z = omega (arith, z)
+
+      go : Written answer buffer ⊎ NotWritten answer buffer → FilingMeans (FilingAnswer.Refused why) notion size from to answer buffer held
+      go (inl w) = absurd (values-refusal [] (refusalNumber why) (ap (λ (a : Lent). a .told) (sym (w .2) ∙ sym e)))
+      go (inr n) = record {
+        files-exactly = (
+          λ same. let z : _≡_ {A = ℕ} 0 1 = cc in absurd (absurd-one z),
+          λ h. absurd (⊎-elim (λ d. d (h .0)) (λ d. d (writes-stands answer .1 (h .1))) (n .0)),
+        );
+        written = λ same. let z : _≡_ {A = ℕ} 0 1 = cc in absurd (absurd-one z);
+        refused = λ other same. ap (λ (a : Lent). a .held) (e ∙ n .1);
+      }

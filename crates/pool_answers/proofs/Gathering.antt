@@ -1,11 +1,11 @@
 -- The reports of a search that is divided over jobs: pooled, they tell what the verdict does; with one left out, its first rank.
---     filed-fits                 a report that is filed is read as it was written
---     Listed, listed             what stands in the list for a job: its bounds, and what its range check answered
---     gathered-pooled            the pool takes the list, whatever is left out
---     gathered-true              and every clean report in it is true
---     job-covers, covers-job     a rank is covered exactly by the report of its job
---     jobs-pooled                the reports of all jobs of all sizes pool to the verdict's answer
---     job-missing                with one that has a rank left out, and nothing found, to uncovered with that job's first rank
+--     report-there .. true-there   what stands in a list for a range check: its report, and what it answered
+--     campaign-pooled, campaign-true     a pool takes the reports of any range checks, and the clean ones are true
+--     gathered-pooled, gathered-true     the same of jobs, whatever is left out
+--     job-covers, covers-job       a rank is covered exactly by the report of its job
+--     jobs-missing                 with some jobs left out, of which one has a rank, and nothing found: uncovered, with a rank of one of them
+--     jobs-pooled                  the reports of all jobs of all sizes pool to the verdict's answer
+--     job-missing                  with one left out that has a rank, and nothing found: uncovered, with that job's first rank
 use Prim.Native.Nat.{ℕ, suc, _%_, _^_, _≤_, _<_}
 use native.Mathlib.Nat.{le-refl, le-trans, not-suc-le-zero}
 use native.Mathlib.Decide.{decLt}
@@ -28,19 +28,23 @@ use Rattle.revolving.specs.Order.{setAt, rankOf}
 use Rattle.revolving.proofs.Rising.{isSet-parts}
 use Rattle.revolving.proofs.Revolving.{set-at-is-set, set-of-rank, rank-of-set}
 use Rattle.breaking.specs.Breaking.{isBreaking}
+use Rattle.table.specs.Answers.{tableCheck}
 use Rattle.table.proofs.Conditions.{accepted-exactly}
+use Rattle.division.specs.Answers.{jobRanks}
 use Rattle.division.specs.Division.{start, HasRank}
-use Rattle.division.proofs.Division.{start-rises, start-within, job-of-rank, one-job}
+use Rattle.division.proofs.Division.{start-within, job-of-rank, one-job, rank-counted}
 use Rattle.division.proofs.Entries.{job-told}
 use Rattle.filed_reports.specs.declared.Report.{Report}
 use Rattle.filed_reports.specs.Bytes.{reportBytes, allOnes, reportAt, reportCount, bytesOfReport}
 use Rattle.filed_reports.specs.Filed.{Filed, Covers, Finds}
-use Rattle.filed_reports.proofs.Bytes.{Fits, read-at}
+use Rattle.filed_reports.proofs.Bytes.{read-at}
 use Rattle.verdict_answers.specs.declared.RangeAnswer.{RangeAnswer}
 use Rattle.verdict_answers.specs.Answers.{notionOf, rangeTold, rangeCheck, verdictOf}
-use Rattle.verdict_answers.specs.First.{NotAfter, FirstBreaking, FirstInRange}
+use Rattle.verdict_answers.specs.First.{NotAfter, FirstBreaking, FirstInRange, RangeFinds}
+use Rattle.verdict_answers.specs.Conditions.{WrongNotion}
 use Rattle.verdict_answers.specs.Guarantee.{Watched}
 use Rattle.verdict_answers.specs.Jobs.{nothing, broken, Ordered, Asked, Divided}
+use Rattle.verdict_answers.proofs.Conditions.{range-asked}
 use Rattle.verdict_answers.proofs.First.{shows-exactly}
 use Rattle.verdict_answers.proofs.Finds.{range-finds}
 use Rattle.verdict_answers.proofs.Watching.{set-watched, watched-set}
@@ -48,8 +52,8 @@ use Rattle.pool_answers.specs.Answers.{holdsTold, brokenTold, uncoveredT
 use Rattle.pool_answers.specs.Conditions.{Answered}
 use Rattle.pool_answers.specs.Says.{Reported, IsCovered, NoneReported, AllCovered, FirstReported, FirstUncovered, Pooled}
 use Rattle.pool_answers.specs.Agrees.{AllTrue}
-use Rattle.pool_answers.specs.Gathered.{bytesAt, JobReport, Gathered, All, But, PoolIsVerdict}
-use Rattle.pool_answers.proofs.Filing.{Fileable, Writes, is-written}
+use Rattle.pool_answers.specs.Gathered.{bytesAt, Checked, Campaign, JobReport, Gathered, All, But, PoolIsVerdict}
+use Rattle.pool_answers.proofs.Filing.{filed-fits, Writes, is-written}
 use Rattle.pool_answers.proofs.Saying.{within, uncovered-exactly, Found, Missing, Whole, three}
 use Rattle.pool_answers.proofs.Agreeing.{holds-too, found-breaks}
 
@@ -57,28 +61,111 @@ no-wires : (notion : Notion) (table : List ℕ) (shares masks : ℕ) → isBreak
 unfolding isBreaking
 no-wires notion table shares masks = empty-breaks-nothing notion shares masks
 
--- ---- one report
+-- ---- what was filed from a range check's answer
 
-pub filed-fits : (r : Report) → Fileable r → Fits r
-filed-fits r f =
-    let most : binom maxWires (r .size) < largest = counts-fit maxWires (r .size) (le-refl maxWires) (f .filed .high) in
-    record {
-      notion = notion (alike (r .notion) 1) (alike (r .notion) 2);
-      size = omega (arith, f .filed .high);
-      filling = let z = f .filed .blank in omega (arith, z);
-      from = omega (arith, f .filed .rises, f .filed .ends, most);
-      to = omega (arith, f .filed .ends, most);
-      found = found most (alike (r .found) allOnes);
-    }
-  where
-    notion : Dec (r .notion ≡ 1) → Dec (r .notion ≡ 2) → r .notion < 256
-    notion (yes e) x = omega (arith, e)
-    notion (no d) (yes e) = omega (arith, e)
-    notion (no d) (no e) = absurd (f .known (d, e))
+module _ (table : List ℕ) (shares masks notion : ℕ) (reports : List ℕ) (size from to i : ℕ)
+    (c : Checked table shares masks notion size from to (bytesAt reports i)) where
+  abbrev wires : ℕ
+  wires = wireCount table
 
-    found : binom maxWires (r .size) < largest → Dec (r .found ≡ allOnes) → r .found < 256 ^ 8
-    found most (yes e) = omega (arith, e)
-    found most (no d) = let inside = f .filed .inside d in omega (arith, inside .1, f .filed .ends, most)
+  abbrev w : Writes notion size from to (c .answer)
+  w = is-written notion size from to (c .answer) (c .lent) (bytesAt reports i) (c .files) .0
+
+  abbrev pub found-there : ℕ
+  found-there = w .found
+
+  pub report-there : reportAt reports i ≡ reportOf notion size from to found-there
+  report-there = read-at reports i (reportOf notion size from to (w .found)) (filed-fits (reportOf notion size from to (w .found)) (w .fileable))
+      (is-written notion size from to (c .answer) (c .lent) (bytesAt reports i) (c .files) .1)
+
+  -- the range check was not turned down
+  pub asked-there : Asked table shares masks notion size (c .buffer) × (from ≤ to) × (to ≤ binom wires size)
+  asked-there = range-asked table shares masks notion size from to (c .buffer) .0
+      (go (c .answer) (w .answered) (ap (λ (a : Lent). a .told) (sym (c .answers))))
+    where
+      go : (answer : RangeAnswer) → Answered size from to answer (w .found)
+          → rangeCheck table shares masks notion size from to (c .buffer) .told ≡ rangeTold answer (c .held) .told
+          → (l : List ℕ) × (rangeCheck table shares masks notion size from to (c .buffer) .told ≡ values l)
+      go RangeAnswer.Clean a e = ([], e)
+      go (RangeAnswer.Found k rank) a e = (k ∷ rank ∷ [], e)
+      go (RangeAnswer.Refused why) a e = absurd a
+
+  finds : RangeFinds (c .answer) table shares masks notion size from to (c .buffer) (c .held)
+  finds = range-finds table shares masks notion size from to (c .buffer) (c .held) (c .answer) (c .answers)
+
+  found-place : (answer : RangeAnswer) (found : ℕ) → Answered size from to answer found → (found ≡ allOnes → ⊥)
+      → (from ≤ found) × (found < to) × (answer ≡ RangeAnswer.Found size found)
+  found-place RangeAnswer.Clean found a d = absurd (d a)
+  found-place (RangeAnswer.Found k rank) found a d = (
+    omega (arith, a .1, a .3),
+    omega (arith, a .2, a .3),
+    ap₂ {C = RangeAnswer} RangeAnswer.Found (a .0) (sym (a .3)),
+  )
+  found-place (RangeAnswer.Refused why) found a d = absurd a
+
+  wires-few : wires ≤ maxWires
+  wires-few = omega (arith, accepted-exactly table shares masks .0 (asked-there .0 .sound) .short)
+
+  clean-place : (answer : RangeAnswer) (found : ℕ) → Answered size from to answer found → found ≡ allOnes → answer ≡ RangeAnswer.Clean
+  clean-place RangeAnswer.Clean found a e = refl
+  clean-place (RangeAnswer.Found k rank) found a e =
+      let most : binom wires size < largest = counts-fit wires size wires-few (asked-there .0 .small) in
+      let z : ⊥ = omega (arith, a .2, a .3, e, asked-there .2, most) in
+      absurd z
+  clean-place (RangeAnswer.Refused why) found a e = absurd a
+
+  pub first-there : (found-there ≡ allOnes → ⊥) → FirstInRange table shares masks notion size from to (take size (c .held)) found-there
+  first-there d =
+      let p = found-place (c .answer) (w .found) (w .answered) d in finds .found size (w .found) (p .2) .2
+
+  pub clean-there : found-there ≡ allOnes → rangeCheck table shares masks notion size from to (c .buffer) ≡ nothing (c .buffer)
+  clean-there e =
+      let clean = clean-place (c .answer) (w .found) (w .answered) e in
+      sym (c .answers) ∙ ap (λ (a : RangeAnswer). rangeTold a (c .held)) clean ∙ ap nothing (finds .clean clean .0)
+
+  pub filed-there : (order : ℕ) → 1 ≤ size → size ≤ order → Filed (binom wires) notion order (reportAt reports i)
+  filed-there order low few = subst (Filed (binom wires) notion order) (sym report-there) (record {
+    same = refl;
+    low = low;
+    high = few;
+    blank = refl;
+    rises = asked-there .1;
+    ends = asked-there .2;
+    inside = λ d. let p = found-place (c .answer) (w .found) (w .answered) d in (p .0, p .1);
+  })
+
+  pub breaks-there : (reportAt reports i .found ≡ allOnes → ⊥)
+      → isBreaking (notionOf notion) table shares masks (setAt wires (reportAt reports i .size) (reportAt reports i .found)) ≡ true
+  breaks-there d =
+      let f = first-there (λ e. d (ap (λ (r : Report). r .found) report-there ∙ e)) in
+      ap (λ (r : Report). isBreaking (notionOf notion) table shares masks (setAt wires (r .size) (r .found))) report-there
+      ∙ ap (isBreaking (notionOf notion) table shares masks) (f .stands) ∙ f .breaking
+
+  pub true-there : reportAt reports i .found ≡ allOnes → (b : List ℕ) × (reportAt reports i .size ≤ length b)
+      × (rangeCheck table shares masks notion (reportAt reports i .size) (reportAt reports i .from) (reportAt reports i .to) b ≡ nothing b)
+  true-there e =
+      subst (λ (r : Report). (b : List ℕ) × (r .size ≤ length b) × (rangeCheck table shares masks notion (r .size) (r .from) (r .to) b ≡ nothing b))
+      (sym report-there)
+      (c .buffer, asked-there .0 .room, clean-there (sym (ap (λ (r : Report). r .found) report-there) ∙ e))
+
+-- the reports of a campaign are taken, and the clean ones are true
+module _ (table : List ℕ) (shares masks notion order : ℕ) (reports : List ℕ) (sound : values [] ≡ tableCheck table shares masks)
+    (known : WrongNotion notion → ⊥) (low : 1 ≤ order) (high : order < shares) (g : Campaign table shares masks notion order reports) where
+  pub campaign-pooled : Pooled table shares masks notion order reports
+  campaign-pooled = record {
+    sound = sound;
+    known = known;
+    low = low;
+    high = high;
+    whole = g .whole;
+    filed = λ i h. let e = g .each i h in filed-there table shares masks notion reports (e .0) (e .1) (e .2) i (e .5) order (e .3) (e .4);
+    breaking = λ i h d. let e = g .each i h in breaks-there table shares masks notion reports (e .0) (e .1) (e .2) i (e .5) d;
+  }
+
+  pub campaign-true : AllTrue table shares masks notion reports
+  campaign-true = record { clean = λ i h c. let e = g .each i h in true-there table shares masks notion reports (e .0) (e .1) (e .2) i (e .5) c }
+
+-- ---- the jobs of a division
 
 module _ (table : List ℕ) (shares masks notion order : ℕ) (jobs : ℕ → ℕ) (buffer reports : List ℕ) (ordered : Ordered table shares masks notion order buffer)
     (divided : (size : ℕ) → Divided (jobs size)) where
@@ -94,148 +181,95 @@ module _ (table : List ℕ) (shares masks notion order : ℕ) (jobs : ℕ → �
   order-small : order ≤ maxSize
   order-small = omega (arith, ordered .high, accepted-exactly table shares masks .0 (ordered .sound) .high)
 
-  wires-few : n ≤ maxWires
-  wires-few = omega (arith, accepted-exactly table shares masks .0 (ordered .sound) .short)
+  few-wires : n ≤ maxWires
+  few-wires = omega (arith, accepted-exactly table shares masks .0 (ordered .sound) .short)
 
-  -- what stands in the list for a job
-  pub record Listed (size job i : ℕ) : Type 0 where
-    pub found : ℕ
-    pub here : reportAt reports i ≡ reportOf notion size (bound size job) (bound size (suc job)) found
-    pub answer : RangeAnswer
-    pub held : List ℕ
-    pub answered : Answered size (bound size job) (bound size (suc job)) answer found
-    pub answers : rangeTold answer held ≡ rangeCheck table shares masks notion size (bound size job) (bound size (suc job)) buffer
+  told : (size job : ℕ) → size ≤ order → job < jobs size → jobRanks n size job (jobs size) ≡ values (bound size job ∷ bound size (suc job) ∷ [])
+  told size job few one = job-told n size (jobs size) few-wires (le-trans few order-small) (divided size .some) (divided size .few) job one
 
-  listed : (size job i : ℕ) → size ≤ order → job < jobs size → JobReport table shares masks notion size (jobs size) job buffer (bytesAt reports i) → Listed size job i
-  listed size job i few one j =
+  abbrev Job : ℕ → ℕ → ℕ → Type 0
+  Job size job i = Checked table shares masks notion size (bound size job) (bound size (suc job)) (bytesAt reports i)
+
+  -- its bounds are the job's
+  of-job : (size job i : ℕ) → size ≤ order → job < jobs size → JobReport table shares masks notion size (jobs size) job (bytesAt reports i) → Job size job i
+  of-job size job i few one j =
       let p = j .told in
-      let q = job-told n size (jobs size) wires-few (le-trans few order-small) (divided size .some) (divided size .few) job one in
+      let q = told size job few one in
       let low : j .from ≡ bound size job = cc in
       let high : j .to ≡ bound size (suc job) = cc in
-      let w = is-written notion size (j .from) (j .to) (j .answer) (j .lent) (bytesAt reports i) (j .files) in
-      let r = reportOf notion size (j .from) (j .to) (w .0 .found) in
-      record {
-        found = w .0 .found;
-        here = read-at reports i r (filed-fits r (w .0 .fileable)) (w .1)
-            ∙ ap₂ (λ (a b : ℕ). reportOf notion size a b (w .0 .found)) low high;
-        answer = j .answer;
-        held = j .held;
-        answered = subst (λ (b : ℕ). Answered size (bound size job) b (j .answer) (w .0 .found)) high
-            (subst (λ (a : ℕ). Answered size a (j .to) (j .answer) (w .0 .found)) low (w .0 .answered));
-        answers = j .answers ∙ ap₂ (λ (a b : ℕ). rangeCheck table shares masks notion size a b buffer) low high;
-      }
+      subst (λ (b : ℕ). Checked table shares masks notion size (bound size job) b (bytesAt reports i)) high
+      (subst (λ (a : ℕ). Checked table shares masks notion size a (j .to) (bytesAt reports i)) low (j .checked))
 
-  module _ (size job i : ℕ) (few : size ≤ order) (one : job < jobs size) (l : Listed size job i) where
-    rises : bound size job ≤ bound size (suc job)
-    rises = start-rises (binom n size) (jobs size) job (divided size .some)
+  covers-there : (size job i rank : ℕ) → Job size job i → HasRank (binom n size) (jobs size) job rank → Covers (reportAt reports i) size rank
+  covers-there size job i rank c h =
+      subst (λ (r : Report). Covers r size rank) (sym (report-there table shares masks notion reports size (bound size job) (bound size (suc job)) i c))
+      (record { same = refl; low = h .from; high = h .to })
 
-    ends : bound size (suc job) ≤ binom n size
-    ends = start-within (binom n size) (jobs size) (suc job) (divided size .some) one
-
-    -- what was found, as the range check told it
-    found-place : (answer : RangeAnswer) (found : ℕ) → Answered size (bound size job) (bound size (suc job)) answer found → (found ≡ allOnes → ⊥)
-        → (bound size job ≤ found) × (found < bound size (suc job)) × (answer ≡ RangeAnswer.Found size found)
-    found-place RangeAnswer.Clean found a d = absurd (d a)
-    found-place (RangeAnswer.Found k rank) found a d = (
-      omega (arith, a .1, a .3),
-      omega (arith, a .2, a .3),
-      ap₂ {C = RangeAnswer} RangeAnswer.Found (a .0) (sym (a .3)),
-    )
-    found-place (RangeAnswer.Refused why) found a d = absurd a
-
-    clean-place : (answer : RangeAnswer) (found : ℕ) → Answered size (bound size job) (bound size (suc job)) answer found → found ≡ allOnes
-        → answer ≡ RangeAnswer.Clean
-    clean-place RangeAnswer.Clean found a e = refl
-    clean-place (RangeAnswer.Found k rank) found a e =
-        let most : binom n size < largest = counts-fit n size wires-few (le-trans few order-small) in
-        let z : ⊥ = omega (arith, a .2, a .3, e, ends, most) in
-        absurd z
-    clean-place (RangeAnswer.Refused why) found a e = absurd a
-
-    first-there : (l .found ≡ allOnes → ⊥) → FirstInRange table shares masks notion size (bound size job) (bound size (suc job)) (take size (l .held)) (l .found)
-    first-there d =
-        let p = found-place (l .answer) (l .found) (l .answered) d in
-        range-finds table shares masks notion size (bound size job) (bound size (suc job)) buffer (l .held) (l .answer) (l .answers) .found size (l .found) (p .2) .2
-
-    clean-there : l .found ≡ allOnes → rangeCheck table shares masks notion size (bound size job) (bound size (suc job)) buffer ≡ nothing buffer
-    clean-there e =
-        let c = clean-place (l .answer) (l .found) (l .answered) e in
-        let kept = range-finds table shares masks notion size (bound size job) (bound size (suc job)) buffer (l .held) (l .answer) (l .answers) .clean c .0 in
-        sym (l .answers) ∙ ap (λ (a : RangeAnswer). rangeTold a (l .held)) c ∙ ap nothing kept
-
-    pub filed-there : 1 ≤ size → Filed (binom n) notion order (reportAt reports i)
-    filed-there low = subst (Filed (binom n) notion order) (sym (l .here)) (record {
-      same = refl;
-      low = low;
-      high = few;
-      blank = refl;
-      rises = rises;
-      ends = ends;
-      inside = λ d. let p = found-place (l .answer) (l .found) (l .answered) d in (p .0, p .1);
-    })
-
-    found-same : (reportAt reports i .found ≡ allOnes → ⊥) → l .found ≡ allOnes → ⊥
-    found-same d e = d (ap (λ (r : Report). r .found) (l .here) ∙ e)
-
-    pub breaks-there : (reportAt reports i .found ≡ allOnes → ⊥) → test (setAt n (reportAt reports i .size) (reportAt reports i .found)) ≡ true
-    breaks-there d =
-        let f = first-there (found-same d) in
-        ap (λ (r : Report). test (setAt n (r .size) (r .found))) (l .here) ∙ ap test (f .stands) ∙ f .breaking
-
-    pub true-there : reportAt reports i .found ≡ allOnes → (b : List ℕ) × (reportAt reports i .size ≤ length b)
-        × (rangeCheck table shares masks notion (reportAt reports i .size) (reportAt reports i .from) (reportAt reports i .to) b ≡ nothing b)
-    true-there e =
-        subst (λ (r : Report). (b : List ℕ) × (r .size ≤ length b) × (rangeCheck table shares masks notion (r .size) (r .from) (r .to) b ≡ nothing b))
-        (sym (l .here))
-        (buffer, le-trans few (ordered .room), clean-there (sym (ap (λ (r : Report). r .found) (l .here)) ∙ e))
-
-    pub covers-there : (rank : ℕ) → HasRank (binom n size) (jobs size) job rank → Covers (reportAt reports i) size rank
-    covers-there rank h =
-        subst (λ (r : Report). Covers r size rank) (sym (l .here)) (record { same = refl; low = h .from; high = h .to })
-
-  -- ---- the list
-
-  module _ (Left : ℕ → ℕ → Type 0) (g : Gathered Left table shares masks notion order jobs buffer reports) where
-    at : (i : ℕ) → i < reportCount reports → (size job : ℕ) × (1 ≤ size) × (size ≤ order) × (job < jobs size) × (Left size job → ⊥) × Listed size job i
-    at i h = let e = g .each i h in (e .0, e .1, e .2, e .3, e .4, e .5, listed (e .0) (e .1) i (e .3) (e .4) (e .6))
-
-    pub gathered-pooled : Pooled table shares masks notion order reports
-    gathered-pooled = record {
-      sound = ordered .sound;
-      known = ordered .known;
-      low = ordered .low;
-      high = ordered .high;
+  module _ (Left : ℕ → ℕ → Type 0) (g : Gathered Left table shares masks notion order jobs reports) where
+    campaign : Campaign table shares masks notion order reports
+    campaign = record {
       whole = g .whole;
-      filed = λ i h. let e = at i h in filed-there (e .0) (e .1) i (e .3) (e .4) (e .6) (e .2);
-      breaking = λ i h d. let e = at i h in breaks-there (e .0) (e .1) i (e .3) (e .4) (e .6) d;
+      each = λ i h. let e = g .each i h in (e .0, e .6 .from, e .6 .to, e .2, e .3, e .6 .checked);
     }
 
+    pub gathered-pooled : Pooled table shares masks notion order reports
+    gathered-pooled = campaign-pooled table shares masks notion order reports (ordered .sound) (ordered .known) (ordered .low) (ordered .high) campaign
+
     pub gathered-true : AllTrue table shares masks notion reports
-    gathered-true = record { clean = λ i h c. let e = at i h in true-there (e .0) (e .1) i (e .3) (e .4) (e .6) c }
+    gathered-true = campaign-true table shares masks notion order reports (ordered .sound) (ordered .known) (ordered .low) (ordered .high) campaign
 
     pub job-covers : (size job rank : ℕ) → 1 ≤ size → size ≤ order → (Left size job → ⊥) → HasRank (binom n size) (jobs size) job rank
         → IsCovered reports size rank
     job-covers size job rank low few kept has =
         let s = g .all size job low few (has .inside) kept in
-        let l = listed size job (s .0) few (has .inside) (s .2) in
-        (s .0, s .1, covers-there size job (s .0) few (has .inside) l rank has)
+        (s .0, s .1, covers-there size job (s .0) rank (of-job size job (s .0) few (has .inside) (s .2)) has)
 
     -- the report of another job does not cover the rank
     pub covers-job : (size job rank : ℕ) → HasRank (binom n size) (jobs size) job rank → IsCovered reports size rank → Left size job → ⊥
     covers-job size job rank has c left =
-        let e = at (c .0) (c .1) in
-        let same = ap (λ (r : Report). r .size) (e .6 .here) in
-        let k : e .0 ≡ size = sym same ∙ c .2 .same in
-        let low : bound (e .0) (e .1) ≤ rank = subst (λ (r : Report). r .from ≤ rank) (e .6 .here) (c .2 .low) in
-        let high : rank < bound (e .0) (suc (e .1)) = subst (λ (r : Report). rank < r .to) (e .6 .here) (c .2 .high) in
+        let e = g .each (c .0) (c .1) in
+        let j = of-job (e .0) (e .1) (c .0) (e .3) (e .4) (e .6) in
+        let here = report-there table shares masks notion reports (e .0) (bound (e .0) (e .1)) (bound (e .0) (suc (e .1))) (c .0) j in
+        let k : e .0 ≡ size = sym (ap (λ (r : Report). r .size) here) ∙ c .2 .same in
+        let low : bound (e .0) (e .1) ≤ rank = subst (λ (r : Report). r .from ≤ rank) here (c .2 .low) in
+        let high : rank < bound (e .0) (suc (e .1)) = subst (λ (r : Report). rank < r .to) here (c .2 .high) in
         let there : HasRank (binom n (e .0)) (jobs (e .0)) (e .1) rank = record { inside = e .4; from = low; to = high } in
-        let here : HasRank (binom n size) (jobs size) (e .1) rank = subst (λ (x : ℕ). HasRank (binom n x) (jobs x) (e .1) rank) k there in
-        let i : job ≡ e .1 = one-job (binom n size) (jobs size) job (e .1) rank (divided size .some) has here in
+        let other : HasRank (binom n size) (jobs size) (e .1) rank = subst (λ (x : ℕ). HasRank (binom n x) (jobs x) (e .1) rank) k there in
+        let i : job ≡ e .1 = one-job (binom n size) (jobs size) job (e .1) rank (divided size .some) has other in
         e .5 (subst (λ (x : ℕ). Left (e .0) x) i (subst (λ (x : ℕ). Left x job) (sym k) left))
+
+    -- with some left out, and nothing found, the pool names a rank of one of them
+    module _ (decided : (size job : ℕ) → Dec (Left size job)) (none : NoneReported reports) (k job r : ℕ) (low : 1 ≤ k) (few : k ≤ order) (left : Left k job)
+        (has : HasRank (binom n k) (jobs k) job r) where
+      pub jobs-missing : (size rank i : ℕ) × (poolOf table shares masks notion order reports ≡ uncoveredTold size rank) × Left size i
+          × HasRank (binom n size) (jobs size) i rank
+      jobs-missing = go (three table shares masks notion order reports gathered-pooled)
+        where
+          Answer : Type 0
+          Answer = (size rank i : ℕ) × (poolOf table shares masks notion order reports ≡ uncoveredTold size rank) × Left size i
+              × HasRank (binom n size) (jobs size) i rank
+
+          of : (size rank : ℕ) → FirstUncovered n order reports size rank → poolOf table shares masks notion order reports ≡ uncoveredTold size rank → Answer
+          of size rank u e = pick (job-of-rank (binom n size) (jobs size) rank (divided size .some) (u .counted))
+            where
+              pick : (i : ℕ) × HasRank (binom n size) (jobs size) i rank → Answer
+              pick j = by (decided size (j .0))
+                where
+                  by : Dec (Left size (j .0)) → Answer
+                  by (yes l) = (size, rank, j .0, e, l, j .1)
+                  by (no d) = absurd (u .here (job-covers size (j .0) rank (u .low) (u .high) d (j .1)))
+
+          go : Found table shares masks notion order reports gathered-pooled
+              ⊎ (Missing table shares masks notion order reports gathered-pooled ⊎ Whole table shares masks notion order reports gathered-pooled)
+              → Answer
+          go (inl f) = absurd (none (f .0) (f .1) (f .2 .here))
+          go (inr (inl m)) = of (m .0) (m .1) (m .3) (m .4)
+          go (inr (inr x)) =
+              absurd (covers-job k job r has (x .1 k r low few (rank-counted (binom n k) (jobs k) job r (divided k .some) has)) left)
 
   -- ---- all of them
 
-  module _ (g : Gathered All table shares masks notion order jobs buffer reports) where
+  module _ (g : Gathered All table shares masks notion order jobs reports) where
     pooled-all : Pooled table shares masks notion order reports
     pooled-all = gathered-pooled All g
 
@@ -251,27 +285,39 @@ module _ (table : List ℕ) (shares masks notion order : ℕ) (jobs : ℕ → �
         let there = set-of-rank n (length u) u (watched-set table order u w) in
         let j = job-of-rank (binom n (length u)) (jobs (length u)) (rankOf n u) (divided (length u) .some) (there .0) in
         let s = g .all (length u) (j .0) low (w .few) (j .1 .inside) (λ z. z) in
-        let l = listed (length u) (j .0) (s .0) (w .few) (j .1 .inside) (s .2) in
-        go (j .0) (j .1) (s .0) (s .1) l (alike (l .found) allOnes) (there .1)
+        let c = of-job (length u) (j .0) (s .0) (w .few) (j .1 .inside) (s .2) in
+        go (j .0) (j .1) (s .0) (s .1) c
+        (alike (found-there table shares masks notion reports (length u) (bound (length u) (j .0)) (bound (length u) (suc (j .0))) (s .0) c) allOnes)
+        (there .1)
       where
-        go : (job : ℕ) → HasRank (binom n (length u)) (jobs (length u)) job (rankOf n u) → (i : ℕ) → i < reportCount reports → (l : Listed (length u) job i)
-            → Dec (l .found ≡ allOnes) → setAt n (length u) (rankOf n u) ≡ u
+        go : (job : ℕ) → HasRank (binom n (length u)) (jobs (length u)) job (rankOf n u) → (i : ℕ) → i < reportCount reports → (c : Job (length u) job i)
+            → Dec (found-there table shares masks notion reports (length u) (bound (length u) job) (bound (length u) (suc job)) i c ≡ allOnes)
+            → setAt n (length u) (rankOf n u) ≡ u
             → (r : ℕ) × Reported reports (length u) r × (r ≤ rankOf n u)
-        go job has i h l (yes e) stands =
-            let c = clean-there (length u) job i (w .few) (has .inside) l e in
-            let r = range-finds table shares masks notion (length u) (bound (length u) job) (bound (length u) (suc job)) buffer buffer RangeAnswer.Clean (sym c) in
+        go job has i h c (yes e) stands =
+            let clean = clean-there table shares masks notion reports (length u) (bound (length u) job) (bound (length u) (suc job)) i c e in
+            let r = range-finds table shares masks notion (length u) (bound (length u) job) (bound (length u) (suc job)) (c .buffer) (c .buffer)
+            RangeAnswer.Clean (sym clean) in
             absurd (true≢false (sym breaks ∙ ap test (sym stands) ∙ r .clean refl .1 (rankOf n u) (has .from) (has .to)))
-        go job has i h l (no d) stands = (
-          l .found,
-          (i, h, subst (λ (r : Report). Finds r (length u) (l .found)) (sym (l .here)) (record { found = d; same = refl; here = refl })),
-          later (decLt (rankOf n u) (l .found)),
+        go job has i h c (no d) stands = (
+          found,
+          (
+            i,
+            h,
+            subst (λ (r : Report). Finds r (length u) found)
+                (sym (report-there table shares masks notion reports (length u) (bound (length u) job) (bound (length u) (suc job)) i c))
+                (record { found = d; same = refl; here = refl }),
+          ),
+          later (decLt (rankOf n u) found),
         )
           where
-            f : FirstInRange table shares masks notion (length u) (bound (length u) job) (bound (length u) (suc job)) (take (length u) (l .held)) (l .found)
-            f = first-there (length u) job i (w .few) (has .inside) l d
+            found : ℕ
+            found = found-there table shares masks notion reports (length u) (bound (length u) job) (bound (length u) (suc job)) i c
 
-            later : Dec (rankOf n u < l .found) → l .found ≤ rankOf n u
-            later (yes less) = absurd (true≢false (sym breaks ∙ ap test (sym stands) ∙ f .first (rankOf n u) (has .from) less))
+            later : Dec (rankOf n u < found) → found ≤ rankOf n u
+            later (yes less) =
+                let f = first-there table shares masks notion reports (length u) (bound (length u) job) (bound (length u) (suc job)) i c d in
+                absurd (true≢false (sym breaks ∙ ap test (sym stands) ∙ f .first (rankOf n u) (has .from) less))
             later (no more) = omega (arith, more)
 
     shown-first : (size rank : ℕ) → FirstReported reports size rank → FirstBreaking table shares masks notion order (setAt n size rank)
@@ -315,7 +361,7 @@ module _ (table : List ℕ) (shares masks notion order : ℕ) (jobs : ℕ → �
 
   -- ---- all but one
 
-  module _ (k job : ℕ) (g : Gathered (But k job) table shares masks notion order jobs buffer reports) (low : 1 ≤ k) (few : k ≤ order) (one : job < jobs k)
+  module _ (k job : ℕ) (g : Gathered (But k job) table shares masks notion order jobs reports) (low : 1 ≤ k) (few : k ≤ order) (one : job < jobs k)
       (some : start (binom n k) (jobs k) job < start (binom n k) (jobs k) (suc job)) (none : NoneReported reports) where
     first-rank : HasRank (binom n k) (jobs k) job (bound k job)
     first-rank = record { inside = one; from = le-refl (bound k job); to = some }

@@ -2,7 +2,8 @@
 -- be a later one" (request No. 5).
 --     AllTrue        of the ranks of every clean report a range check, with a buffer long enough, is clean
 --     PoolAgrees     holds: with any buffer long enough the verdict holds, and every set to watch has a choice of shares; broken: the set at the size and
---                    rank is one to watch, breaks the notion and has no choice of shares, and with any buffer long enough the verdict shows a set too
+--                    rank is one to watch, breaks the notion and has no choice of shares, and with any buffer long enough the verdict shows a set too,
+--                    which comes no later
 use Prim.Native.Nat.{ℕ, _≤_, _<_}
 use mathlib.Core.Path.{_≡_}
 use mathlib.Core.Bool.{true}
@@ -13,6 +14,7 @@ use Rattle.revolving.specs.Order.{setAt}
 use Rattle.breaking.specs.Breaking.{isBreaking}
 use Rattle.filed_reports.specs.Bytes.{allOnes, reportAt, reportCount}
 use Rattle.verdict_answers.specs.Answers.{notionOf, verdictOf, rangeCheck}
+use Rattle.verdict_answers.specs.First.{NotAfter}
 use Rattle.verdict_answers.specs.Guarantee.{Watched, HasChoice}
 use Rattle.verdict_answers.specs.Jobs.{nothing, broken}
 use Rattle.pool_answers.specs.declared.PoolAnswer.{PoolAnswer}
@@ -32,3 +34,4 @@ pub record PoolAgrees (answer : PoolAnswer) (table : List ℕ) (shares masks not
       × (HasChoice table shares masks notion (setAt (wireCount table) size rank) → ⊥)
   pub shows : (size rank : ℕ) → answer ≡ PoolAnswer.Broken size rank
       → (buffer : List ℕ) → order ≤ length buffer → (set : List ℕ) × (verdictOf table shares masks notion order buffer ≡ broken set buffer)
+      × NotAfter (wireCount table) set (setAt (wireCount table) size rank)

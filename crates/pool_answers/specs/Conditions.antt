@@ -2,7 +2,7 @@
 --     WrongList, FalseFinds     the conditions on the list of reports
 --     poolConditions            the pool's
 --     Answered                  what a range check answered of a size and bounds: clean, or a rank of that size between them
---     Stands                    a report of it that a pool takes, of some table and at some order
+--     CouldStand                a report of it that passes the tests of 25, of some table and at some order
 --     filingConditions          the writing's
 use Prim.Native.Nat.{ℕ, _%_, _≤_, _<_}
 use mathlib.Core.Path.{_≡_}
@@ -53,7 +53,7 @@ Answered size from to RangeAnswer.Clean found = found ≡ allOnes
 Answered size from to (RangeAnswer.Found k rank) found = (k ≡ size) × (from ≤ rank) × (rank < to) × (found ≡ rank)
 Answered size from to (RangeAnswer.Refused why) found = ⊥
 
-pub record Stands (notion size from to : ℕ) (answer : RangeAnswer) : Type 0 where
+pub record CouldStand (notion size from to : ℕ) (answer : RangeAnswer) : Type 0 where
   pub found : ℕ
   pub answered : Answered size from to answer found
   pub wires : ℕ
@@ -66,5 +66,5 @@ pub record Stands (notion size from to : ℕ) (answer : RangeAnswer) : Type 0 wh
 -- "a 25 where the buffer is not 32 bytes or the numbers could stand in no report"
 abbrev pub filingConditions : ℕ → ℕ → ℕ → ℕ → RangeAnswer → List ℕ → List Condition
 filingConditions notion size from to answer buffer =
-    25 when ((length buffer ≡ reportBytes → ⊥) ⊎ (Stands notion size from to answer → ⊥))
+    25 when ((length buffer ≡ reportBytes → ⊥) ⊎ (CouldStand notion size from to answer → ⊥))
     ∷ []

@@ -5,9 +5,11 @@
 --     FirstUncovered               not covered, and every smaller size and every rank before it is
 --     Pooled                       a pool that no test turns down
 --     PoolSays                     what each answer says
+--     FilingMeans                  a report is filed exactly where it could stand in some list and the buffer has its length; it is then read from the buffer
+--                                  again, and where it is refused the buffer is as it was
 use Prim.Native.Nat.{ℕ, _%_, _≤_, _<_}
 use mathlib.Core.Path.{_≡_}
-use mathlib.Core.Logic.{_⊎_}
+use mathlib.Core.Logic.{_↔_, _⊎_}
 use mathlib.Core.Bool.{true}
 use mathlib.Core.List.{List, []}
 use lib.ListN.{length}
@@ -22,7 +24,12 @@ use Rattle.filed_reports.specs.Bytes.{reportBytes, allOnes, reportAt, reportCou
 use Rattle.filed_reports.specs.Filed.{Filed, Covers, Finds}
 use Rattle.verdict_answers.specs.Answers.{notionOf}
 use Rattle.verdict_answers.specs.Conditions.{WrongNotion}
+use Rattle.verdict_answers.specs.declared.RangeAnswer.{RangeAnswer}
+use Rattle.pool_answers.specs.declared.Refusal.{Refusal}
 use Rattle.pool_answers.specs.declared.PoolAnswer.{PoolAnswer}
+use Rattle.pool_answers.specs.declared.FilingAnswer.{FilingAnswer}
+use Rattle.pool_answers.specs.Answers.{reportOf}
+use Rattle.pool_answers.specs.Conditions.{Answered, CouldStand}
 
 abbrev pub Reported : List ℕ → ℕ → ℕ → Type 0
 Reported reports size rank = Some (reportCount reports) (λ i. Finds (reportAt reports i) size rank)
@@ -63,3 +70,10 @@ pub record PoolSays (answer : PoolAnswer) (table : List ℕ) (shares masks notio
   pub broken : (size rank : ℕ) → answer ≡ PoolAnswer.Broken size rank → FirstReported reports size rank
   pub uncovered : (size rank : ℕ) → answer ≡ PoolAnswer.Uncovered size rank
       → NoneReported reports × FirstUncovered (wireCount table) order reports size rank
+
+-- what is filed is read again, with the found rank of the range check's answer
+pub record FilingMeans (told : FilingAnswer) (notion size from to : ℕ) (answer : RangeAnswer) (buffer held : List ℕ) : Type 0 where
+  pub files-exactly : (told ≡ FilingAnswer.Filed) ↔ ((length buffer ≡ reportBytes) × CouldStand notion size from to answer)
+  pub written : told ≡ FilingAnswer.Filed
+      → (length held ≡ reportBytes) × ((found : ℕ) × Answered size from to answer found × (reportAt held 0 ≡ reportOf notion size from to found))
+  pub refused : (why : Refusal) → told ≡ FilingAnswer.Refused why → held ≡ buffer

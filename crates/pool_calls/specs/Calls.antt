@@ -15,7 +15,7 @@ use Rattle.filed_reports.specs.Bytes.{reportBytes, allOnes, bytesOfReport}
 use Rattle.verdict_answers.specs.declared.RangeAnswer.{RangeAnswer}
 use Rattle.pool_answers.specs.declared.PoolAnswer.{PoolAnswer}
 use Rattle.pool_answers.specs.Answers.{reportOf, filedReport}
-use Rattle.pool_answers.specs.Conditions.{Stands}
+use Rattle.pool_answers.specs.Conditions.{CouldStand}
 use Rattle.pool_answers.specs.Says.{PoolSays}
 use Rattle.pool_answers.specs.Agrees.{PoolAgrees}
 
@@ -36,5 +36,5 @@ pub record PoolTells (status answer size rank : ℕ) (table : List ℕ) (shares 
   pub uncovered : status ≡ 0 → answer ≡ 3 → PoolSays (PoolAnswer.Uncovered size rank) table shares masks notion order reports
 
 pub record FilingSays (status notion size from to clean rank : ℕ) (buffer held : List ℕ) : Type 0 where
-  pub files-exactly : (status ≡ 0) ↔ ((length buffer ≡ reportBytes) × ((clean ≤ 1) × Stands notion size from to (checkedAs size clean rank)))
+  pub files-exactly : (status ≡ 0) ↔ ((length buffer ≡ reportBytes) × ((clean ≤ 1) × CouldStand notion size from to (checkedAs size clean rank)))
   pub written : status ≡ 0 → held ≡ bytesOfReport (reportOf notion size from to (cond (eqb clean 1) allOnes rank))

@@ -1,14 +1,14 @@
 -- `filing::filed_report` meets its contract: by what the range check answered.
 -- Assumes nothing.
 use borrow.Author.Needs.{needs}
-use Rattle.filing.proofs.Writing.{wrong-length, refused-answer, other-size, found-low, found-high, clean-filed, found-filed}
+use Rattle.filing.proofs.Writing.{promised, wrong-length, refused-answer, other-size, found-low, found-high, clean-filed, found-filed}
 use Rattle.filing.proofs.filed_report.Tie as tie
 use Rattle.filing.proofs.filed_report.Statement.{statement}
 
 returns : tie.Need-returns
 returns c =
     let a = c .before .before .args in
-    wrong-length (a .notion) (a .size) (a .from) (a .to) (a .answer) _ (c .if1 .taken)
+    promised (a .notion) (a .size) (a .from) (a .to) (a .answer) _ _ _ (wrong-length (a .notion) (a .size) (a .from) (a .to) (a .answer) _ (c .if1 .taken))
 
 enum-known-answer : tie.Need-enum-known-answer
 enum-known-answer c = search needs
@@ -25,17 +25,17 @@ enum-known-answer-2 c = search needs
 returns-2 : tie.Need-returns-2
 returns-2 c =
     let a = c .before .before .before .before .before .before .args in
-    other-size (a .notion) (a .size) (a .from) (a .to) (a .answer) _ (c .before .before .before .before .if1 .left) _ _ (c .before .before .answer2 .given .1) (c .if2 .taken)
+    promised (a .notion) (a .size) (a .from) (a .to) (a .answer) _ _ _ (other-size (a .notion) (a .size) (a .from) (a .to) (a .answer) _ (c .before .before .before .before .if1 .left) _ _ (c .before .before .answer2 .given .1) (c .if2 .taken))
 
 returns-3 : tie.Need-returns-3
 returns-3 c =
     let a = c .before .before .before .before .before .before .before .args in
-    found-low (a .notion) (a .size) (a .from) (a .to) (a .answer) _ (c .before .before .before .before .before .if1 .left) _ _ (c .before .before .before .answer2 .given .1) (c .if3 .taken)
+    promised (a .notion) (a .size) (a .from) (a .to) (a .answer) _ _ _ (found-low (a .notion) (a .size) (a .from) (a .to) (a .answer) _ (c .before .before .before .before .before .if1 .left) _ _ (c .before .before .before .answer2 .given .1) (c .if3 .taken))
 
 returns-4 : tie.Need-returns-4
 returns-4 c =
     let a = c .before .before .before .before .before .before .before .before .args in
-    found-high (a .notion) (a .size) (a .from) (a .to) (a .answer) _ (c .before .before .before .before .before .before .if1 .left) _ _ (c .before .before .before .before .answer2 .given .1) (c .if4 .taken)
+    promised (a .notion) (a .size) (a .from) (a .to) (a .answer) _ _ _ (found-high (a .notion) (a .size) (a .from) (a .to) (a .answer) _ (c .before .before .before .before .before .before .if1 .left) _ _ (c .before .before .before .before .answer2 .given .1) (c .if4 .taken))
 
 file-requires-2 : tie.Need-file-requires-2
 file-requires-2 c κs = search needs
@@ -43,7 +43,7 @@ file-requires-2 c κs = search needs
 returns-5 : tie.Need-returns-5
 returns-5 c =
     let a = c .before .before .before .before .before .args in
-    refused-answer (a .notion) (a .size) (a .from) (a .to) (a .answer) _ (c .before .before .before .if1 .left) _ (c .before .answer .given .1)
+    promised (a .notion) (a .size) (a .from) (a .to) (a .answer) _ _ _ (refused-answer (a .notion) (a .size) (a .from) (a .to) (a .answer) _ (c .before .before .before .if1 .left) _ (c .before .answer .given .1))
 
 same-length : tie.Need-same-length
 same-length c = search needs
@@ -51,7 +51,7 @@ same-length c = search needs
 returns-6 : tie.Need-returns-6
 returns-6 c =
     let a = c .before .before .before .before .before .before .before .before .args in
-    clean-filed (a .notion) (a .size) (a .from) (a .to) (a .answer) _ (c .before .before .before .before .before .before .if1 .left) (c .before .before .before .before .enum-told .given .1) _ (c .before .before .file .ensures)
+    promised (a .notion) (a .size) (a .from) (a .to) (a .answer) _ _ _ (clean-filed (a .notion) (a .size) (a .from) (a .to) (a .answer) _ (c .before .before .before .before .before .before .if1 .left) (c .before .before .before .before .enum-told .given .1) _ (c .before .before .file .ensures))
 
 same-length-2 : tie.Need-same-length-2
 same-length-2 c = search needs
@@ -59,7 +59,7 @@ same-length-2 c = search needs
 returns-7 : tie.Need-returns-7
 returns-7 c =
     let a = c .before .before .before .before .before .before .before .before .before .before .before .before .args in
-    found-filed (a .notion) (a .size) (a .from) (a .to) (a .answer) _ (c .before .before .before .before .before .before .before .before .before .before .if1 .left) _ _ (c .before .before .before .before .before .before .before .before .answer2 .given .1) (c .before .before .before .before .before .before .if2 .left) (c .before .before .before .before .before .if3 .left) (c .before .before .before .before .if4 .left) _ (c .before .before .file2 .ensures)
+    promised (a .notion) (a .size) (a .from) (a .to) (a .answer) _ _ _ (found-filed (a .notion) (a .size) (a .from) (a .to) (a .answer) _ (c .before .before .before .before .before .before .before .before .before .before .if1 .left) _ _ (c .before .before .before .before .before .before .before .before .answer2 .given .1) (c .before .before .before .before .before .before .if2 .left) (c .before .before .before .before .before .if3 .left) (c .before .before .before .before .if4 .left) _ (c .before .before .file2 .ensures))
 
 pub filed-report-spec : {M : Type 1} → statement M
 filed-report-spec =

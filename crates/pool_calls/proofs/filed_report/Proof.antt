@@ -34,7 +34,7 @@ same-length c = search needs
 returns-2 : tie.Need-returns-2
 returns-2 c =
     let a = c .before .before .before .before .before .before .before .before .before .before .before .args in
-    filing-refused (a .notion) (a .size) (a .from) (a .to) (a .clean) (a .rank) _ (c .before .before .before .before .before .before .before .before .before .if1 .left) _ (c .before .before .before .before .before .before .before .before .checked .ensures) _ _ (c .before .before .before .before .before .before .filed-report .ensures) _ _ (c .before .before .told .given .1) (c .number2 .ensures)
+    filing-refused (a .notion) (a .size) (a .from) (a .to) (a .clean) (a .rank) _ (c .before .before .before .before .before .before .before .before .before .if1 .left) _ (c .before .before .before .before .before .before .before .before .checked .ensures) _ _ (c .before .before .before .before .before .before .filed-report .ensures .0) _ _ (c .before .before .told .given .1) (c .number2 .ensures)
 
 same-length-2 : tie.Need-same-length-2
 same-length-2 c = search needs
@@ -42,7 +42,7 @@ same-length-2 c = search needs
 returns-3 : tie.Need-returns-3
 returns-3 c =
     let a = c .before .before .before .before .before .before .before .before .before .args in
-    filing-done (a .notion) (a .size) (a .from) (a .to) (a .clean) (a .rank) _ (c .before .before .before .before .before .before .before .if1 .left) _ (c .before .before .before .before .before .before .checked .ensures) _ _ (c .before .before .before .before .filed-report .ensures) (c .enum-told .given .1)
+    filing-done (a .notion) (a .size) (a .from) (a .to) (a .clean) (a .rank) _ (c .before .before .before .before .before .before .before .if1 .left) _ (c .before .before .before .before .before .before .checked .ensures) _ _ (c .before .before .before .before .filed-report .ensures .0) (c .enum-told .given .1)
 
 pub filed-report-spec : {M : Type 1} → statement M
 filed-report-spec =
