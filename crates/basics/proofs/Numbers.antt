@@ -2,6 +2,7 @@
 --     from-on     what holds at a number, and goes on from each number to the next as long as that is not past an end, holds up to the end
 --     rises       numbers that do not fall from one to the next do not fall
 --     alike       two numbers are the same or not
+--     below-next  a number below the next one is that one or below it
 use Prim.Native.Nat.{ℕ, zero, suc, _+_, _≤_, _<_}
 use native.Mathlib.Nat.{le-refl, eq-or-lt-of-le, le-of-suc-le-suc}
 use native.Mathlib.Decide.{decLt}
@@ -28,3 +29,6 @@ alike m n = go (decLt m n) (decLt n m)
     go (yes p) d = no (λ e. omega (arith, p, e))
     go (no p) (yes q) = no (λ e. omega (arith, q, e))
     go (no p) (no q) = yes (omega (arith, p, q))
+
+pub below-next : (j i : ℕ) → j < i + 1 → (j ≡ i) ⊎ (j < i)
+below-next j i h = let l : j ≤ i = omega (arith, h) in eq-or-lt-of-le l

@@ -6,6 +6,7 @@
 --     xor-two                                  two sums added part by part
 --     and-xor, xor-and                         the product of a sum
 --     and-cond                                 a conjunction as a choice
+--     failed                                   a test that can not pass
 use mathlib.Core.Path.{_≡_, refl, sym, _∙_, ap}
 use mathlib.Core.Logic.{_⊎_, inl, inr}
 use mathlib.Core.Bool.{Bool, true, false, cond, not, _&&_, _||_, xor, true≢false, false≢true}
@@ -121,3 +122,7 @@ and-xor true false c = xor-false′ c
 and-xor false true true = refl
 and-xor false true false = refl
 and-xor false false c = refl
+
+pub failed : (b : Bool) → (b ≡ true → ⊥) → b ≡ false
+failed true h = absurd (h refl)
+failed false h = refl

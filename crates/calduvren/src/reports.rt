@@ -23,7 +23,17 @@ pub extern "C" fn calduvren_pool(
     ensures { λ r. ⌜ Kept r (now (answer .exit) ∷ now (size .exit) ∷ now (rank .exit) ∷ []) (now (answer .entry) ∷ now (size .entry) ∷ now (rank .entry) ∷ []) [] [] ⌝ }
     ensures { λ r. ⌜ PoolTells r (now (answer .exit)) (now (size .exit)) (now (rank .exit)) (now (table .entry)) shares masks notion order (now (reports .entry)) ⌝ }
 {
-    pool_calls::pool(table, shares, masks, notion, order, reports, answer, size, rank)
+    pool_calls::pool(
+        table,
+        shares,
+        masks,
+        notion,
+        order,
+        reports,
+        answer,
+        size,
+        rank,
+    )
 }
 
 // Writes the report of a range check.

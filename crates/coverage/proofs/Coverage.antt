@@ -4,26 +4,23 @@
 --     Tried, tried-none, tried-more, tried-all      a pass that has added nothing has found each report that it tried not to cover the rank
 --     reach-stop, reach-end     pass after pass
 --     Covered, covered-none, covered-more, found-uncovered, none-uncovered     size after size
-use Prim.Native.Nat.{ℕ, suc, _+_, _-_, _≤_, _<_}
-use native.Mathlib.Nat.{le-refl, eq-or-lt-of-le, le-of-suc-le-suc, not-suc-le-zero}
+use Prim.Native.Nat.{ℕ, _+_, _-_, _≤_, _<_}
+use native.Mathlib.Nat.{le-refl, eq-or-lt-of-le, not-suc-le-zero}
 use native.Mathlib.Decide.{decLt}
 use native.Mathlib.Omega.{arith}
 use mathlib.Core.Path.{_≡_, refl, sym, _∙_, ap, subst}
 use mathlib.Core.Logic.{_⊎_, inl, inr}
 use mathlib.Core.Bool.{Bool, true, false, cond, not, true≢false}
 use mathlib.Core.List.{List}
+use Rattle.basics.proofs.Tests.{failed}
+use Rattle.basics.proofs.Numbers.{below-next}
 use Rattle.counts.specs.Counts.{binom}
 use Rattle.filed_reports.specs.declared.Report.{Report}
-use Rattle.filed_reports.specs.declared.Place.{Place}
 use Rattle.filed_reports.specs.Bytes.{reportAt, reportCount}
 use Rattle.filed_reports.specs.Filed.{covers, covered, Covers}
-use Rattle.filed_reports.specs.Places.{NoPlace, FirstPlace, PlaceIs}
+use Rattle.filed_reports.specs.Places.{PlaceIs}
 use Rattle.filed_reports.proofs.Filed.{covers-exactly, covered-exactly}
 use Rattle.coverage.specs.Coverage.{Onward, Reach}
-
-failed : (b : Bool) → (b ≡ true → ⊥) → b ≡ false
-failed true h = absurd (h refl)
-failed false h = refl
 
 -- ---- one report more
 
@@ -90,11 +87,8 @@ module _ (reports : List ℕ) (size : ℕ) where
       → (i < reportCount reports) × (i ≡ cond backward (reportCount reports - 1 - turn) turn) → Extended i reach to
       → Tried from backward (turn + 1) to
   tried-more from backward turn reach to i tried at more =
-      record { onward = onward-join from reach to (tried .onward) (more .0); missed = λ e t h. go e t (next t h) }
+      record { onward = onward-join from reach to (tried .onward) (more .0); missed = λ e t h. go e t (below-next t turn h) }
     where
-      next : (t : ℕ) → t < turn + 1 → (t ≡ turn) ⊎ (t < turn)
-      next t h = let k : t ≤ turn = omega (arith, h) in eq-or-lt-of-le k
-
       go : to ≡ from → (t : ℕ) → (t ≡ turn) ⊎ (t < turn) → covers (reportAt reports (cond backward (reportCount reports - 1 - t) t)) size from ≡ false
       go e t (inl same) =
           let stayed : reach ≡ from = omega (arith, e, tried .onward .rises, more .0 .rises) in
@@ -152,11 +146,8 @@ module _ (reports : List ℕ) (wires : ℕ) where
   shown false e f = true≢false (sym e)
 
   pub covered-more : (size all rank : ℕ) → Covered size → all ≡ binom wires size → Reach reports size all rank → all ≤ rank → Covered (size + 1)
-  covered-more size all rank c e r h = record { whole = λ k i low high. at k i low (next k high) }
+  covered-more size all rank c e r h = record { whole = λ k i low high. at k i low (below-next k size high) }
     where
-      next : (k : ℕ) → k < size + 1 → (k ≡ size) ⊎ (k < size)
-      next k h = let l : k ≤ size = omega (arith, h) in eq-or-lt-of-le l
-
       at : (k i : ℕ) → 1 ≤ k → (k ≡ size) ⊎ (k < size) → i < binom wires k → uncovered k i ≡ true → ⊥
       at k i low (inl same) = subst (λ (x : ℕ). i < binom wires x → uncovered x i ≡ true → ⊥) (sym same)
           (λ l. shown (covered reports size i) (r .before i (omega (arith, h, l, e))))

@@ -1,7 +1,7 @@
 // Which ranks the reports of a list cover: from rank 0 of a size on, and the first size and rank that no report covers. These functions ask what the
 // entries have tested.
 ghost use mathlib.Core.Path.{_≡_};
-ghost use mathlib.Core.Bool.{Bool, false, cond, not};
+ghost use mathlib.Core.Bool.{false, cond, not};
 ghost use Prim.Native.Nat.{_-_, _≤_, _<_};
 ghost use Rattle.limits.specs.Limits.{maxWires, maxSize};
 ghost use Rattle.counts.specs.Counts.{binom, Counts};

@@ -4,11 +4,10 @@
 --     covers-exactly, covered-exactly     a report covers a rank; some report of a list does
 --     finds-exactly, reported-exactly     a report finds a rank; some report of a list does
 use Prim.Native.Nat.{ℕ, _≤_, _<_}
-use native.Mathlib.Decide.{decLt}
 use native.Mathlib.Omega.{arith}
-use mathlib.Core.Path.{_≡_, refl}
-use mathlib.Core.Logic.{_↔_, Iff·trans, _⊎_, inl, inr, ⊎-elim}
-use mathlib.Core.Bool.{Bool, true, false}
+use mathlib.Core.Path.{_≡_}
+use mathlib.Core.Logic.{_↔_, Iff·trans, inl, inr}
+use mathlib.Core.Bool.{true}
 use mathlib.Core.List.{List}
 use Rattle.basics.specs.Conditions.{Some}
 use Rattle.basics.proofs.Conditions.{less, least, equal, fails, both, one-of, not-both, not-least, not-less, some-decides}

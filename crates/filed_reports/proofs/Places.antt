@@ -2,21 +2,17 @@
 --     first-rank-none, first-rank-is       the least number that passes
 --     rank-either                          there is none, or there is a least one
 --     no-place-is, first-place-is          what is told of the first place
---     place-either, place-only             there is none, or there is one; there is only one
+--     place-either                         there is none, or there is one
 use Prim.Native.Nat.{ℕ, zero, suc, _≤_, _<_, suc-le-suc}
 use native.Mathlib.Nat.{eq-or-lt-of-le, le-of-suc-le-suc, not-suc-le-zero}
-use native.Mathlib.Decide.{decLt}
 use native.Mathlib.Omega.{arith}
 use mathlib.Core.Path.{_≡_, refl, sym, _∙_, ap, subst}
 use mathlib.Core.Logic.{_⊎_, inl, inr}
 use mathlib.Core.Bool.{Bool, true, false, cond, true≢false}
 use borrow.Author.Tests.{lt-ltb, le-ltb}
 use lib.Dec.{ltb}
+use Rattle.basics.proofs.Tests.{failed}
 use Rattle.filed_reports.specs.Places.{firstRank, ofSize, firstPlace, NoPlace, FirstPlace}
-
-failed : (b : Bool) → (b ≡ true → ⊥) → b ≡ false
-failed true h = absurd (h refl)
-failed false h = refl
 
 pub first-rank-none : (n : ℕ) (passes : ℕ → Bool) → ((i : ℕ) → i < n → passes i ≡ true → ⊥) → firstRank n passes ≡ n
 unfolding firstRank

@@ -4,7 +4,7 @@
 --     anyMisfiled            some report of a list fails them
 --     covers, covered        a rank of a size is between the bounds of a report; of some report of a list
 --     finds, reported        a rank of a size is the found rank of a report; of some report of a list
---     Misfiled, Covers, Finds     the same in words
+--     Misfiled, Covers, Finds     the same in words; Filed: not misfiled
 use Prim.Native.Nat.{ℕ, _≤_, _<_}
 use mathlib.Core.Path.{_≡_}
 use mathlib.Core.Logic.{_⊎_}

@@ -17,13 +17,18 @@ const SIZE_AT: usize = 1;
 
 const FILLING_AT: usize = 2;
 
+// What the two bytes below the filling come to in a word.
+const BELOW_FILLING: u64 = 65536;
+
 const FROM_AT: usize = 8;
 
 const TO_AT: usize = 16;
 
 const FOUND_AT: usize = 24;
 
-// What was checked, the ranks from one up to, without, the other, and the first rank found to break; the filling is 0.
+const RANK_BYTES: usize = 8;
+
+// What was checked, the ranks from one up to, without, the other, and a rank found to break, or `CLEAN`; the filling is 0.
 pub struct Report {
     pub notion: usize,
     pub size: usize,
@@ -43,7 +48,7 @@ pub fn report_at(reports: &[u8], i: usize) -> Report
     Report {
         notion: wide(reports[at]) as usize,
         size: wide(reports[at + SIZE_AT]) as usize,
-        filling: word(reports, at) / 65536,
+        filling: word(reports, at) / BELOW_FILLING,
         from: word(reports, at + FROM_AT),
         to: word(reports, at + TO_AT),
         found: word(reports, at + FOUND_AT),
@@ -58,9 +63,9 @@ pub fn write_report(report: Report, bytes: &mut [u8])
     write_number(bytes, 0, 1, report.notion as u64);
     write_number(bytes, SIZE_AT, 1, report.size as u64);
     write_number(bytes, FILLING_AT, FROM_AT - FILLING_AT, report.filling);
-    write_number(bytes, FROM_AT, 8, report.from);
-    write_number(bytes, TO_AT, 8, report.to);
-    write_number(bytes, FOUND_AT, 8, report.found);
+    write_number(bytes, FROM_AT, RANK_BYTES, report.from);
+    write_number(bytes, TO_AT, RANK_BYTES, report.to);
+    write_number(bytes, FOUND_AT, RANK_BYTES, report.found);
 }
 
 // A rank of a size; size 0 says that there is none.

@@ -8,6 +8,7 @@ use mathlib.Core.Path.{_≡_, refl, sym, _∙_, ap}
 use mathlib.Core.Logic.{inl, inr}
 use mathlib.Core.Bool.{Bool, true, false, not, true≢false}
 use mathlib.Core.List.{List}
+use borrow.Author.Tests.{not-true, not-false}
 use Rattle.basics.specs.Folds.{some, upTo}
 use Rattle.basics.proofs.Folds.{some-at, none-more}
 use Rattle.filed_reports.specs.declared.Report.{Report}
@@ -79,27 +80,16 @@ module _ (all : ℕ → ℕ) (notion order : ℕ) (reports : List ℕ) where
   unfolding upTo
   passed-none = record { none = refl }
 
-  flip : (b c : Bool) → b ≡ c → b ≡ true → c ≡ true
-  flip b c e f = sym e ∙ f
-
   told : (i : ℕ) (r : Report) (b : Bool) → r ≡ reportAt reports i → b ≡ not (misfiled all notion order r) → b ≡ not (wrong i)
   told i r b e f = f ∙ ap (λ (x : Report). not (misfiled all notion order x)) e
 
   pub passed-more : (i : ℕ) (r : Report) (b : Bool) → Passed i → r ≡ reportAt reports i → b ≡ not (misfiled all notion order r) → b ≡ true → Passed (i + 1)
-  passed-more i r b p e f g = record { none = none-more i wrong (p .none) (go (wrong i) (sym g ∙ told i r b e f)) }
-    where
-      go : (c : Bool) → true ≡ not c → c ≡ false
-      go true h = absurd (true≢false h)
-      go false h = refl
+  passed-more i r b p e f g = record { none = none-more i wrong (p .none) (not-true (wrong i) (sym (told i r b e f) ∙ g)) }
 
   pub one-fails : (i : ℕ) (r : Report) (b : Bool) → i < reportCount reports → r ≡ reportAt reports i → b ≡ not (misfiled all notion order r) → b ≡ false
       → false ≡ not (anyMisfiled all notion order reports)
   unfolding anyMisfiled
-  one-fails i r b h e f g = ap not (sym (some-at (reportCount reports) i wrong h (go (wrong i) (sym g ∙ told i r b e f))))
-    where
-      go : (c : Bool) → false ≡ not c → c ≡ true
-      go true h = refl
-      go false h = absurd (true≢false (sym h))
+  one-fails i r b h e f g = ap not (sym (some-at (reportCount reports) i wrong h (not-false (wrong i) (sym (told i r b e f) ∙ g))))
 
   pub all-pass : (i : ℕ) → Passed i → i ≡ reportCount reports → true ≡ not (anyMisfiled all notion order reports)
   unfolding anyMisfiled

@@ -7,7 +7,7 @@ use native.Mathlib.Omega.{arith}
 use mathlib.Core.Path.{_≡_, refl, sym, _∙_, ap}
 use mathlib.Core.Bool.{Bool, true, false, cond, not, _&&_, true≢false, and-false}
 use mathlib.Core.List.{List, []}
-use borrow.Author.Tests.{eq-eqb, ne-eqb, le-leb, lt-leb, lt-ltb, le-ltb}
+use borrow.Author.Tests.{eq-eqb, ne-eqb, le-leb, lt-leb, lt-ltb, le-ltb, not-true, not-false}
 use lib.Dec.{eqb, leb, ltb}
 use lib.ListN.{length}
 use Rattle.limits.specs.Limits.{maxWires, maxSize}
@@ -37,11 +37,7 @@ module _ (notion size from to found : ℕ) (buffer : List ℕ) where
   module _ (b : Bool) (tested : b ≡ not (misfiled (binom maxWires) notion maxSize (reportOf notion size from to found))) where
     pub not-taken : b ≡ false → turnedDown 25 buffer ≡ filedAs (reportOf notion size from to found) buffer
     not-taken e = sym (filed-no r buffer (λ f. filed-exactly (binom maxWires) notion maxSize r .1 (f .filed)
-        (misfiled-exactly (binom maxWires) notion maxSize r .0 (go (misfiled (binom maxWires) notion maxSize r) (sym tested ∙ e)))))
-      where
-        go : (c : Bool) → not c ≡ false → c ≡ true
-        go true e = refl
-        go false e = absurd (true≢false e)
+        (misfiled-exactly (binom maxWires) notion maxSize r .0 (not-false (misfiled (binom maxWires) notion maxSize r) (sym tested ∙ e)))))
 
     pub taken : 1 ≤ notion → notion ≤ 2 → b ≡ true → (held : List ℕ) → held ≡ bytesOfReport (reportOf notion size from to found)
         → _≡_ {A = Lent} (record { told = values []; held = held }) (filedAs (reportOf notion size from to found) buffer)
@@ -50,15 +46,11 @@ module _ (notion size from to found : ℕ) (buffer : List ℕ) where
           known = λ w. other w;
           filed = filed-exactly (binom maxWires) notion maxSize r .0
               (λ m. true≢false (sym (misfiled-exactly (binom maxWires) notion maxSize r .1 m)
-              ∙ go (misfiled (binom maxWires) notion maxSize r) (sym tested ∙ e)));
+              ∙ not-true (misfiled (binom maxWires) notion maxSize r) (sym tested ∙ e)));
         }))
       where
         other : (notion ≡ 1 → ⊥) × (notion ≡ 2 → ⊥) → ⊥
         other w = omega (arith, low, high, w .0, w .1)
-
-        go : (c : Bool) → not c ≡ true → c ≡ false
-        go true e = absurd (true≢false (sym e))
-        go false e = refl
 
 -- ---- of what a range check answered
 

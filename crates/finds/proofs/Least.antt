@@ -7,18 +7,18 @@ use native.Mathlib.Decide.{decLt}
 use native.Mathlib.Omega.{arith}
 use mathlib.Core.Path.{_≡_, refl, sym, _∙_, ap, subst}
 use mathlib.Core.Logic.{_↔_, _⊎_, inl, inr, ⊎-elim}
-use mathlib.Core.Bool.{Bool, true, false, not, _&&_, _||_, true≢false}
+use mathlib.Core.Bool.{Bool, true, false, true≢false}
 use mathlib.Core.List.{List}
-use borrow.Author.Tests.{eq-eqb, ne-eqb, lt-ltb, le-ltb}
-use lib.Dec.{ltb, eqb}
+use lib.Dec.{ltb}
 use Rattle.basics.specs.Conditions.{Some}
 use Rattle.basics.proofs.Conditions.{less, equal, fails, both, one-of}
-use Rattle.basics.proofs.Numbers.{alike}
+use Rattle.basics.proofs.Tests.{failed}
+use Rattle.basics.proofs.Numbers.{alike, below-next}
 use Rattle.filed_reports.specs.declared.Report.{Report}
 use Rattle.filed_reports.specs.declared.Place.{Place}
 use Rattle.filed_reports.specs.Bytes.{allOnes, reportAt, reportCount}
 use Rattle.filed_reports.specs.Filed.{anyMisfiled, reported, Filed, Finds}
-use Rattle.filed_reports.specs.Places.{NoPlace, FirstPlace, PlaceIs}
+use Rattle.filed_reports.specs.Places.{PlaceIs}
 use Rattle.filed_reports.proofs.Filed.{any-misfiled, filed-exactly, reported-exactly}
 use Rattle.finds.specs.Finds.{comesFirst}
 
@@ -34,13 +34,9 @@ decides r p =
     both (fails (equal (r .found) allOnes))
     (one-of (equal (p .size) 0) (one-of (less (r .size) (p .size)) (both (equal (r .size) (p .size)) (less (r .found) (p .rank)))))
 
-failed : (b : Bool) → (b ≡ true → ⊥) → false ≡ b
-failed true h = absurd (h refl)
-failed false h = refl
-
 module _ (r : Report) (p : Place) where
   pub first-clean : r .found ≡ allOnes → false ≡ comesFirst r p
-  first-clean e = failed (comesFirst r p) (λ t. decides r p .0 t .0 e)
+  first-clean e = sym (failed (comesFirst r p) (λ t. decides r p .0 t .0 e))
 
   module _ (d : r .found ≡ allOnes → ⊥) where
     pub first-alone : p .size ≡ 0 → true ≡ comesFirst r p
@@ -51,15 +47,15 @@ module _ (r : Report) (p : Place) where
 
     module _ (some : p .size ≡ 0 → ⊥) where
       pub first-larger : p .size < r .size → false ≡ comesFirst r p
-      first-larger h = failed (comesFirst r p)
-          (λ t. ⊎-elim some (⊎-elim (λ l. omega (arith, h, l)) (λ l. omega (arith, h, l .0))) (decides r p .0 t .1))
+      first-larger h = sym (failed (comesFirst r p)
+          (λ t. ⊎-elim some (⊎-elim (λ l. omega (arith, h, l)) (λ l. omega (arith, h, l .0))) (decides r p .0 t .1)))
 
       pub first-rank : p .size ≤ r .size → r .size ≤ p .size → (b : Bool) → ltb (r .found) (p .rank) ≡ b → b ≡ comesFirst r p
       first-rank low high true e =
           let same : r .size ≡ p .size = omega (arith, low, high) in
           sym (decides r p .1 (d, inr (inr (same, less (r .found) (p .rank) .0 e))))
-      first-rank low high false e = failed (comesFirst r p)
-          (λ t. ⊎-elim some (⊎-elim (λ l. omega (arith, l, low)) (λ l. true≢false (sym (less (r .found) (p .rank) .1 (l .1)) ∙ e))) (decides r p .0 t .1))
+      first-rank low high false e = sym (failed (comesFirst r p)
+          (λ t. ⊎-elim some (⊎-elim (λ l. omega (arith, l, low)) (λ l. true≢false (sym (less (r .found) (p .rank) .1 (l .1)) ∙ e))) (decides r p .0 t .1)))
 
 -- ---- report after report
 
@@ -87,15 +83,12 @@ module _ (reports : List ℕ) where
     first = λ d j h. absurd (not-suc-le-zero h);
   }
 
-  next : (j i : ℕ) → j < i + 1 → (j ≡ i) ⊎ (j < i)
-  next j i h = let l : j ≤ i = omega (arith, h) in eq-or-lt-of-le l
-
   module _ (i : ℕ) (p : Place) (l : Least i p) (r : Report) (is : r ≡ at i) (b : Bool) (e : b ≡ comesFirst r p) where
     pub least-left : b ≡ false → Least (i + 1) p
     least-left f = record {
-      none = λ z j h. none z j (next j i h);
+      none = λ z j h. none z j (below-next j i h);
       some = λ d. let s = l .some d in (s .0, omega (arith, s .1), s .2);
-      first = λ d j h. first d j (next j i h);
+      first = λ d j h. first d j (below-next j i h);
     }
       where
         never : Before r p → ⊥
@@ -125,7 +118,7 @@ module _ (reports : List ℕ) where
     least-taken f sizes listed = record {
       none = λ z j h. let low : 1 ≤ r .size = ap-low in let w : ⊥ = omega (arith, z, low) in absurd w;
       some = λ d. (i, omega arith, subst (λ (x : Report). Finds x (r .size) (r .found)) is (record { found = taken .0; same = refl; here = refl }));
-      first = λ d j h. first j (next j i h);
+      first = λ d j h. first j (below-next j i h);
     }
       where
         taken : Before r p

@@ -1,6 +1,6 @@
 -- What reports have found.
 --     falseFind, anyFalse     a found rank is not that of a set that passes the test, of a report and of some report of a list
---     Findable                every found rank is one of a size that has so many sets
+--     Findable                every found rank is below the number of sets of its size
 --     comesFirst              a report has found a rank that comes before a place, by size and then by rank
 use Prim.Native.Nat.{ℕ, _≤_, _<_}
 use mathlib.Core.Path.{_≡_}

@@ -3,19 +3,18 @@
 --     before, order-low, order-high, list-odd, list-wrong, find-false     the refusals
 --     Passed, bytes, wires-few, order-small, findable     the first tests passed, and what the tests of the reports ask then
 --     false-decided                the test over all bits of a record finds what the gadget's shares and masks give
---     Tested                       all tests passed
 --     found-first, first-missing, none-missing     the answers
 use Prim.Native.Nat.{ℕ, _%_, _≤_, _<_}
 use native.Mathlib.Nat.{le-trans}
 use native.Mathlib.Omega.{arith}
 use mathlib.Core.Path.{_≡_, refl, sym, _∙_, ap}
 use mathlib.Core.Bool.{Bool, true, false, cond, not, _&&_, _||_, and-false, true≢false}
-use mathlib.Core.List.{List, [], _∷_}
-use borrow.Author.Tests.{le-leb, lt-leb, le-ltb, lt-ltb, eq-eqb, ne-eqb}
-use lib.Dec.{ltb, leb, eqb}
+use mathlib.Core.List.{List}
+use borrow.Author.Tests.{le-leb, lt-leb, le-ltb, lt-ltb, eq-eqb, ne-eqb, not-true, not-false}
+use lib.Dec.{leb, eqb}
 use lib.ListN.{length}
 use Rattle.limits.specs.Limits.{maxShares, maxMasks, maxWires, maxSize, maxTableBytes}
-use Rattle.basics.specs.Told.{Told, values, refusal}
+use Rattle.basics.specs.Told.{Told, refusal}
 use Rattle.basics.proofs.Folds.{fold-below}
 use Rattle.basics.proofs.Numbers.{alike}
 use Rattle.wires.specs.declared.Notion.{Notion}
@@ -24,7 +23,6 @@ use Rattle.counts.specs.Counts.{binom}
 use Rattle.revolving.specs.Order.{setAt}
 use Rattle.revolving.proofs.Revolving.{set-at-is-set}
 use Rattle.breaking.specs.Breaking.{isBreaking}
-use Rattle.filed_reports.specs.declared.Report.{Report}
 use Rattle.filed_reports.specs.declared.Place.{Place}
 use Rattle.filed_reports.specs.Bytes.{reportBytes, allOnes, reportAt, reportCount}
 use Rattle.filed_reports.specs.Filed.{isClean, anyMisfiled, covered, reported, Filed}
@@ -32,8 +30,6 @@ use Rattle.filed_reports.specs.Places.{firstPlace, PlaceIs}
 use Rattle.filed_reports.proofs.Filed.{any-misfiled, filed-exactly}
 use Rattle.filed_reports.proofs.Places.{first-place-is, no-place-is}
 use Rattle.finds.specs.Finds.{falseFind, anyFalse, Findable}
-use Rattle.verdict_answers.specs.declared.Refusal as verdict-refusal
-use Rattle.verdict_answers.specs.Answers as verdict-answers
 use Rattle.verdict_answers.specs.Answers.{wrongOrder, notionOf}
 use Rattle.opening.specs.declared.Opened.{Opened}
 use Rattle.opening.specs.Opening.{openedTold, opens}
@@ -52,14 +48,6 @@ pub promised : (table : List ℕ) (shares masks notion order : ℕ) (reports : L
     × (PoolSays answer table shares masks notion order reports × PoolAgrees answer table shares masks notion order reports)
 promised table shares masks notion order reports answer e =
     (e, (pool-says table shares masks notion order reports answer e, pool-agrees table shares masks notion order reports answer e))
-
-not-fails : (b c : Bool) → b ≡ not c → b ≡ false → c ≡ true
-not-fails b true e f = refl
-not-fails b false e f = absurd (true≢false (sym e ∙ f))
-
-not-holds : (b c : Bool) → b ≡ not c → b ≡ true → c ≡ false
-not-holds b true e f = absurd (true≢false (sym f ∙ e))
-not-holds b false e f = refl
 
 module _ (table : List ℕ) (shares masks notion order : ℕ) (reports : List ℕ) where
   abbrev n : ℕ
@@ -154,11 +142,11 @@ module _ (table : List ℕ) (shares masks notion order : ℕ) (reports : List �
 
     pub list-wrong : (b : Bool) → b ≡ not (anyMisfiled (binom (wireCount table)) notion order reports) → b ≡ false
         → refusal 25 ≡ poolOf table shares masks notion order reports
-    list-wrong b e f = by-report true (not-fails b misfiling e f)
+    list-wrong b e f = by-report true (not-false misfiling (sym e ∙ f))
 
     module _ (b : Bool) (tested : b ≡ not (anyMisfiled (binom (wireCount table)) notion order reports)) (passes : b ≡ true) where
       pub none-misfiled : anyMisfiled (binom (wireCount table)) notion order reports ≡ false
-      none-misfiled = not-holds b misfiling tested passes
+      none-misfiled = not-true misfiling (sym tested ∙ passes)
 
       filed : (i : ℕ) → i < reportCount reports → Filed (binom all) notion order (reportAt reports i)
       filed i h = filed-exactly (binom all) notion order (reportAt reports i) .0
@@ -194,11 +182,11 @@ module _ (table : List ℕ) (shares masks notion order : ℕ) (reports : List �
             ap (λ (x : Bool). cond x (refusal 26) (pooled all order reports)) (sym e ∙ false-decided) ∙ by-report false none-misfiled
 
         pub find-false : c ≡ false → refusal 26 ≡ poolOf table shares masks notion order reports
-        find-false f = by-finds true (not-fails c (anyFalse wide all reports) looked f)
+        find-false f = by-finds true (not-false (anyFalse wide all reports) (sym looked ∙ f))
 
         module _ (break : c ≡ true) (found : Place) (first : PlaceIs (binom (wireCount table)) (reported reports) order found) where
           answer : pooled all order reports ≡ result
-          answer = by-finds false (not-holds c (anyFalse wide all reports) looked break)
+          answer = by-finds false (not-true (anyFalse wide all reports) (sym looked ∙ break))
 
           pub found-first : (found .size ≡ 0 → ⊥) → brokenTold (found .size) (found .rank) ≡ poolOf table shares masks notion order reports
           found-first d = sym (first-place-is (binom all) (reported reports) brokenTold order (found .size) (found .rank) _ (first .first d)) ∙ answer

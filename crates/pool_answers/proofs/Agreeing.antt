@@ -4,10 +4,8 @@
 --     all-whole              where every rank is covered so, no set to watch breaks
 --     pool-agrees            holds and broken agree with the verdict's answer
 use Prim.Native.Nat.{ℕ, suc, _≤_, _<_}
-use native.Mathlib.Nat.{le-refl}
 use native.Mathlib.Omega.{arith}
 use mathlib.Core.Path.{_≡_, refl, sym, _∙_, ap, subst}
-use mathlib.Core.Logic.{_⊎_, inl, inr}
 use mathlib.Core.Bool.{Bool, true, false, true≢false}
 use mathlib.Core.List.{List, [], _∷_, map}
 use lib.ListN.{length}
@@ -19,15 +17,12 @@ use Rattle.basics.proofs.Numbers.{alike}
 use Rattle.wires.proofs.Breaks.{empty-breaks-nothing}
 use Rattle.watcher.proofs.Choice.{no-choice}
 use Rattle.records.specs.Layout.{wireAt, wireCount}
-use Rattle.counts.specs.Counts.{binom}
 use Rattle.revolving.specs.Order.{setAt, rankOf}
 use Rattle.revolving.proofs.Revolving.{set-at-is-set, set-of-rank}
 use Rattle.breaking.specs.Breaking.{isBreaking}
 use Rattle.search.specs.Search.{searched}
 use Rattle.table.proofs.Conditions.{accepted-exactly}
-use Rattle.filed_reports.specs.declared.Report.{Report}
 use Rattle.filed_reports.specs.Bytes.{allOnes, reportAt, reportCount}
-use Rattle.filed_reports.specs.Filed.{Finds}
 use Rattle.verdict_answers.specs.Answers.{notionOf, firstShown, verdictOf}
 use Rattle.verdict_answers.specs.First.{NotAfter}
 use Rattle.verdict_answers.specs.Guarantee.{Watched, HasChoice}

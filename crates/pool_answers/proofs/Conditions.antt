@@ -8,11 +8,11 @@ use native.Mathlib.Omega.{arith}
 use mathlib.Core.Path.{_≡_, refl, sym, _∙_, subst}
 use mathlib.Core.Logic.{_↔_, Iff·trans, _⊎_, inl, inr, ⊎-elim}
 use mathlib.Core.Bool.{Bool, true, false, not, _||_, true≢false}
-use mathlib.Core.List.{List, []}
+use mathlib.Core.List.{List}
 use lib.Dec.{eqb}
 use lib.ListN.{length}
 use Rattle.basics.specs.Told.{Told, values, refusal}
-use Rattle.basics.specs.Conditions.{None, Settles, Some}
+use Rattle.basics.specs.Conditions.{None, Settles}
 use Rattle.basics.proofs.Conditions.{Chain, own, test, settles-told, equal, fails, both, one-of, not-both, not-least, not-less, some-decides}
 use Rattle.basics.proofs.Numbers.{alike}
 use Rattle.records.specs.Layout.{wireCount}
@@ -21,7 +21,7 @@ use Rattle.revolving.specs.Order.{setAt}
 use Rattle.breaking.specs.Breaking.{isBreaking}
 use Rattle.table.proofs.Conditions.{sound-none, none-sound, accepted-exactly}
 use Rattle.filed_reports.specs.Bytes.{reportBytes, allOnes, reportAt, reportCount}
-use Rattle.filed_reports.specs.Filed.{anyMisfiled, covered, reported, Misfiled}
+use Rattle.filed_reports.specs.Filed.{anyMisfiled, covered, reported}
 use Rattle.filed_reports.specs.Places.{NoPlace, FirstPlace, firstPlace}
 use Rattle.filed_reports.proofs.Filed.{any-misfiled, filed-exactly}
 use Rattle.filed_reports.proofs.Places.{place-either, first-place-is, no-place-is}

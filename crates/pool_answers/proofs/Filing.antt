@@ -12,14 +12,15 @@ use native.Mathlib.Omega.{arith}
 use mathlib.Core.Path.{_≡_, refl, sym, _∙_, ap, subst}
 use mathlib.Core.Logic.{_↔_, _⊎_, inl, inr, ⊎-elim}
 use mathlib.Core.Bool.{Bool, true, false, cond, not, _&&_, _||_, true≢false}
-use mathlib.Core.List.{List, [], _∷_}
+use mathlib.Core.List.{List, []}
 use borrow.Author.Tests.{eq-eqb, ne-eqb, not-false}
 use lib.Dec.{eqb, leb, ltb}
 use lib.ListN.{length}
+use Rattle.basics.proofs.Tests.{failed}
 use Rattle.limits.specs.Limits.{maxWires, maxSize}
 use Rattle.basics.specs.Told.{Lent, values, refusal, turnedDown}
-use Rattle.basics.specs.Conditions.{First, None, SettlesLent}
-use Rattle.basics.proofs.Conditions.{equal, less, least, neither, both, fails, one-of, not-both, not-least, not-less, values-refusal}
+use Rattle.basics.specs.Conditions.{SettlesLent}
+use Rattle.basics.proofs.Conditions.{equal, less, least, neither, both, fails, one-of, values-refusal}
 use Rattle.basics.proofs.Numbers.{alike}
 use Rattle.counts.specs.Counts.{binom}
 use Rattle.counts.proofs.Binomial.{largest, counts-fit, binom-wider}
@@ -44,10 +45,6 @@ wrong-notion notion = neither (equal notion 1) (equal notion 2)
 pub record Fileable (r : Report) : Type 0 where
   pub known : WrongNotion (r .notion) → ⊥
   pub filed : Filed (binom maxWires) (r .notion) maxSize r
-
-failed : (b : Bool) → (b ≡ true → ⊥) → b ≡ false
-failed true h = absurd (h refl)
-failed false h = refl
 
 module _ (r : Report) where
   abbrev wrong : Bool

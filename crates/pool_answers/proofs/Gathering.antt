@@ -6,8 +6,8 @@
 --     jobs-missing                 with some jobs left out, of which one has a rank, and nothing found: uncovered, with a rank of one of them
 --     jobs-pooled                  the reports of all jobs of all sizes pool to the verdict's answer
 --     job-missing                  with one left out that has a rank, and nothing found: uncovered, with that job's first rank
-use Prim.Native.Nat.{ℕ, suc, _%_, _^_, _≤_, _<_}
-use native.Mathlib.Nat.{le-refl, le-trans, not-suc-le-zero}
+use Prim.Native.Nat.{ℕ, suc, _≤_, _<_}
+use native.Mathlib.Nat.{le-refl, le-trans}
 use native.Mathlib.Decide.{decLt}
 use native.Mathlib.Omega.{arith}
 use mathlib.Core.Path.{_≡_, refl, sym, _∙_, ap, ap₂, subst}
@@ -17,7 +17,6 @@ use mathlib.Core.List.{List, [], _∷_}
 use lib.ListN.{length, take}
 use Rattle.limits.specs.Limits.{maxWires, maxSize}
 use Rattle.basics.specs.Told.{Told, Lent, values}
-use Rattle.basics.specs.Conditions.{Some}
 use Rattle.basics.proofs.Numbers.{alike}
 use Rattle.wires.specs.declared.Notion.{Notion}
 use Rattle.wires.proofs.Breaks.{empty-breaks-nothing}
@@ -35,20 +34,20 @@ use Rattle.division.specs.Division.{start, HasRank}
 use Rattle.division.proofs.Division.{start-within, job-of-rank, one-job, rank-counted}
 use Rattle.division.proofs.Entries.{job-told}
 use Rattle.filed_reports.specs.declared.Report.{Report}
-use Rattle.filed_reports.specs.Bytes.{reportBytes, allOnes, reportAt, reportCount, bytesOfReport}
+use Rattle.filed_reports.specs.Bytes.{allOnes, reportAt, reportCount}
 use Rattle.filed_reports.specs.Filed.{Filed, Covers, Finds}
 use Rattle.filed_reports.proofs.Bytes.{read-at}
 use Rattle.verdict_answers.specs.declared.RangeAnswer.{RangeAnswer}
-use Rattle.verdict_answers.specs.Answers.{notionOf, rangeTold, rangeCheck, verdictOf}
+use Rattle.verdict_answers.specs.Answers.{notionOf, rangeTold, rangeCheck}
 use Rattle.verdict_answers.specs.First.{NotAfter, FirstBreaking, FirstInRange, RangeFinds}
 use Rattle.verdict_answers.specs.Conditions.{WrongNotion}
 use Rattle.verdict_answers.specs.Guarantee.{Watched}
-use Rattle.verdict_answers.specs.Jobs.{nothing, broken, Ordered, Asked, Divided}
+use Rattle.verdict_answers.specs.Jobs.{nothing, Ordered, Asked, Divided}
 use Rattle.verdict_answers.proofs.Conditions.{range-asked}
 use Rattle.verdict_answers.proofs.First.{shows-exactly}
 use Rattle.verdict_answers.proofs.Finds.{range-finds}
 use Rattle.verdict_answers.proofs.Watching.{set-watched, watched-set}
-use Rattle.pool_answers.specs.Answers.{holdsTold, brokenTold, uncoveredTold, poolOf, reportOf}
+use Rattle.pool_answers.specs.Answers.{brokenTold, uncoveredTold, poolOf, reportOf}
 use Rattle.pool_answers.specs.Conditions.{Answered}
 use Rattle.pool_answers.specs.Says.{Reported, IsCovered, NoneReported, AllCovered, FirstReported, FirstUncovered, Pooled}
 use Rattle.pool_answers.specs.Agrees.{AllTrue}
@@ -381,11 +380,14 @@ module _ (table : List ℕ) (shares masks notion order : ℕ) (jobs : ℕ → �
         earlier i has same = let from : bound k job ≤ rank = subst (λ (x : ℕ). bound k x ≤ rank) same (has .from) in omega (arith, from, less)
 
     pub job-missing : poolOf table shares masks notion order reports ≡ uncoveredTold k (start (binom n k) (jobs k) job)
-    job-missing = uncovered-exactly table shares masks notion order reports (gathered-pooled (But k job) g) k (bound k job) .1 (none, record {
-      low = low;
-      high = few;
-      counted = omega (arith, some, start-within (binom n k) (jobs k) (suc job) (divided k .some) one);
-      here = λ c. covers-job (But k job) g k job (bound k job) first-rank c (refl, refl);
-      smaller = other-size;
-      before = before-it;
-    })
+    job-missing = uncovered-exactly table shares masks notion order reports (gathered-pooled (But k job) g) k (bound k job) .1 (
+      none,
+      record {
+        low = low;
+        high = few;
+        counted = omega (arith, some, start-within (binom n k) (jobs k) (suc job) (divided k .some) one);
+        here = λ c. covers-job (But k job) g k job (bound k job) first-rank c (refl, refl);
+        smaller = other-size;
+        before = before-it;
+      },
+    )

@@ -21,8 +21,8 @@ use Rattle.filed_reports.specs.Places.{NoPlace, FirstPlace}
 use Rattle.filed_reports.proofs.Filed.{covered-exactly, reported-exactly}
 use Rattle.filed_reports.proofs.Places.{place-either, first-place-is, no-place-is}
 use Rattle.pool_answers.specs.declared.PoolAnswer.{PoolAnswer}
-use Rattle.pool_answers.specs.Answers.{holdsTold, brokenTold, uncoveredTold, poolTold, pooled, poolOf}
-use Rattle.pool_answers.specs.Says.{Reported, IsCovered, NoneReported, AllCovered, FirstReported, FirstUncovered, Pooled, PoolSays}
+use Rattle.pool_answers.specs.Answers.{holdsTold, brokenTold, uncoveredTold, poolTold, poolOf}
+use Rattle.pool_answers.specs.Says.{Reported, NoneReported, AllCovered, FirstReported, FirstUncovered, Pooled, PoolSays}
 use Rattle.pool_answers.proofs.Conditions.{pool-asked, pool-answered}
 
 not-true : (b : Bool) → (not b ≡ true) ↔ (b ≡ true → ⊥)

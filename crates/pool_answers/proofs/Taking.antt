@@ -68,8 +68,7 @@ module _ (table : List ℕ) (shares masks notion size from to : ℕ) (buffer : L
   finding RangeAnswer.Clean held e kept = (allOnes, refl, λ d. absurd (d refl))
   finding (RangeAnswer.Found k rank) held e kept =
       let f = range-finds table shares masks notion size from to buffer held (RangeAnswer.Found k rank) e .found k rank refl in
-      let first = f .2 in
-      (
+      let first = f .2 in (
         rank,
         (f .0, first .low, first .high, refl),
         λ d. (first .low, first .high, ap (isBreaking (notionOf notion) table shares masks) (first .stands) ∙ first .breaking),
@@ -208,8 +207,7 @@ module _ (table : List ℕ) (shares masks notion order : ℕ) (jobs : ℕ → �
       let x = answered-job in
       let most = accepted-exactly table shares masks .0 (ordered .sound) in
       let wires : n ≤ maxWires = omega (arith, most .short) in
-      let t = range-taken table shares masks notion size from-job to-job buffer order low few (ordered .high) (x .0) (x .1) (x .2) (x .3) lent long in
-      (
+      let t = range-taken table shares masks notion size from-job to-job buffer order low few (ordered .high) (x .0) (x .1) (x .2) (x .3) lent long in (
         bytesOfReport (reportOf notion size from-job to-job (t .0)),
         refl,
         record {

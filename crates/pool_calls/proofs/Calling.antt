@@ -6,11 +6,11 @@
 use Prim.Native.Nat.{ℕ, _≤_, _<_}
 use native.Mathlib.Omega.{arith}
 use mathlib.Core.Path.{_≡_, refl, sym, _∙_, ap, ap₂, subst}
-use mathlib.Core.Logic.{_↔_, _⊎_, inl, inr}
+use mathlib.Core.Logic.{_⊎_, inl, inr}
 use mathlib.Core.Bool.{Bool, true, false, cond}
 use mathlib.Core.List.{List, [], _∷_}
 use borrow.Author.Tests.{lt-ltb, le-ltb}
-use lib.Dec.{eqb, ltb}
+use lib.Dec.{eqb}
 use lib.ListN.{length, getD}
 use Rattle.basics.specs.Folds.{keep}
 use Rattle.basics.specs.Told.{Told, Lent, values, refusal, turnedDown}
@@ -122,7 +122,7 @@ module _ (notion size from to clean rank : ℕ) (buffer : List ℕ) where
   pub filing-odd : (status : ℕ) → 1 < clean → status ≡ 25 → Filing status buffer
   filing-odd status h s = (
     ap (λ (n : ℕ). got n [] buffer) s
-    ∙ ap (λ (b : Bool). lentAnswered (cond b (turnedDown 25 buffer) (filedReport notion size from to checks buffer)) []) (sym (lt-ltb 1 clean h)),
+        ∙ ap (λ (b : Bool). lentAnswered (cond b (turnedDown 25 buffer) (filedReport notion size from to checks buffer)) []) (sym (lt-ltb 1 clean h)),
     (λ fails. (refl, refl), none-filed status (omega (arith, s)) (λ x. omega (arith, h, x .1 .0))),
   )
 
@@ -152,8 +152,7 @@ module _ (notion size from to clean rank : ℕ) (buffer : List ℕ) where
       filing-done e =
           let wrote : _≡_ {A = Lent} (record { told = values []; held = held }) (filedReport notion size from to checks buffer) =
           ap (λ (t : FilingAnswer). filingTold t held) (sym e) ∙ tells in
-          let w = is-written notion size from to checks buffer held (sym wrote) in
-          (
+          let w = is-written notion size from to checks buffer held (sym wrote) in (
             ap (λ (l : Lent). lentAnswered l []) (wrote ∙ own),
             (
               kept-0 [] [] held buffer,
@@ -186,8 +185,7 @@ module _ (notion size from to clean rank : ℕ) (buffer : List ℕ) where
               → Filing status held
           go (inl w) = absurd (values-refusal [] (refusalNumber why) (ap (λ (l : Lent). l .told) (sym (down ∙ w .2))))
           go (inr n) =
-              let same : held ≡ buffer = ap (λ (l : Lent). l .held) (down ∙ n .1) in
-              (
+              let same : held ≡ buffer = ap (λ (l : Lent). l .held) (down ∙ n .1) in (
                 lent-refused [] call (refusalNumber why) status held (down ∙ own) s,
                 (
                   λ fails. (refl, same),
@@ -230,8 +228,7 @@ module _ (table : List ℕ) (shares masks notion size from to : ℕ) (buffer : L
         let g : got 0 (clean ∷ found ∷ rank ∷ []) held ≡ lentJudged (firstRanked (wireCount table) [] buffer) before =
         e ∙ ap (λ (a : Lent). lentJudged a before) f in
         let one : clean ≡ 1 = ap (λ (c : Called). getD (c .numbers) 0 0) g in
-        let same : held ≡ buffer = ap (λ (c : Called). c .buffer) g in
-        (
+        let same : held ≡ buffer = ap (λ (c : Called). c .buffer) g in (
           omega (arith, one),
           ap (λ (k : ℕ). rangeTold (checkedAs size k rank) held) one ∙ ap (λ (l : List ℕ). rangeTold RangeAnswer.Clean l) same ∙ sym f,
         )
@@ -244,8 +241,7 @@ module _ (table : List ℕ) (shares masks notion size from to : ℕ) (buffer : L
         let found : rangeTold (RangeAnswer.Found (length s) (rankOf (wireCount table) s)) (verdict-answers.written s buffer) ≡ checked = sym f in
         let long : length s ≡ size =
         range-finds table shares masks notion size from to buffer (verdict-answers.written s buffer) (RangeAnswer.Found (length s) (rankOf (wireCount table) s)) found
-        .found (length s) (rankOf (wireCount table) s) refl .0 in
-        (
+        .found (length s) (rankOf (wireCount table) s) refl .0 in (
           omega (arith, zero),
           ap (λ (k : ℕ). rangeTold (checkedAs size k rank) held) zero
               ∙ ap₂ (λ (r : ℕ) (l : List ℕ). rangeTold (RangeAnswer.Found size r) l) place shown
@@ -272,8 +268,7 @@ module _ (table : List ℕ) (shares masks notion size from to : ℕ) (buffer : L
         × AllTrue table shares masks notion (bytesOfReport (reportOf notion size from to i))
     check-pooled order low few high lent long =
         let c = check-filed in
-        let t = range-taken table shares masks notion size from to buffer order low few high (checkedAs size clean rank) held (c .1) (answers (eqb clean 1)) lent long in
-        (
+        let t = range-taken table shares masks notion size from to buffer order low few high (checkedAs size clean rank) held (c .1) (answers (eqb clean 1)) lent long in (
           t .0,
           ap (λ (b : Bool). cond b (turnedDown 25 lent) (filedReport notion size from to (checkedAs size clean rank) lent)) (le-ltb 1 clean (c .0)) ∙ t .2,
           t .3,

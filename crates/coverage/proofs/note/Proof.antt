@@ -1,7 +1,6 @@
 -- `coverage::note` meets its contract, which promises nothing: it ends, and writes within the two lists.
 -- Assumes nothing.
 use Prim.Native.Nat.{_<_}
-use native.Mathlib.Omega.{arith}
 use borrow.Author.Needs.{needs}
 use Rattle.coverage.proofs.note.Tie as tie
 use Rattle.coverage.proofs.note.Statement.{statement}

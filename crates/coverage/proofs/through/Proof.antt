@@ -1,7 +1,6 @@
 -- `coverage::through` meets its contract: each report that is tried adds ranks that it covers.
 -- Assumes nothing.
 use Prim.Native.Nat.{_-_}
-use native.Mathlib.Omega.{arith}
 use borrow.Author.Needs.{needs}
 use Rattle.coverage.proofs.Coverage.{onward-none, onward-join}
 use Rattle.coverage.specs.Coverage.{Onward}

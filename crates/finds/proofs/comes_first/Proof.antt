@@ -1,7 +1,6 @@
 -- `finds::comes_first` meets its contract: each answer of the comparison.
 -- Assumes nothing.
 use mathlib.Core.Path.{refl}
-use borrow.Author.Needs.{needs}
 use Rattle.finds.proofs.Least.{first-clean, first-alone, first-smaller, first-larger, first-rank}
 use Rattle.finds.proofs.comes_first.Tie as tie
 use Rattle.finds.proofs.comes_first.Statement.{statement}

@@ -3,7 +3,6 @@
 use mathlib.Core.Path.{sym, ap}
 use mathlib.Core.Bool.{Bool, cond}
 use borrow.Author.Tests.{eq-eqb, ne-eqb}
-use borrow.Author.Needs.{needs}
 use Rattle.verdict_answers.specs.declared.RangeAnswer.{RangeAnswer}
 use Rattle.pool_calls.proofs.checked.Tie as tie
 use Rattle.pool_calls.proofs.checked.Statement.{statement}
