@@ -18,8 +18,8 @@
  *
  * A table is NI, or SNI, at an order from 1 to shares - 1 exactly when no set of 1 to that many wires breaks the notion.
  * So say calduvren_verdict and calduvren_directed_verdict, and so do range checks that are clean for EVERY size from 1 to
- * the order over ALL ranks of that size. A set that is found breaks every order from its size on; a clean range, or a
- * clean size above 1, by itself says nothing of an order.
+ * the order over ALL ranks of that size; calduvren_pool tells whether all of them were reported. A set that is found
+ * breaks every order from its size on; a clean range, or a clean size above 1, by itself says nothing of an order.
  *
  * What holds says is about one gadget whose masks are random, fresh and used nowhere else, and whose operands are shared
  * at random, independently of each other. It says nothing of gadgets put together, of a whole by its parts, of glitches,
@@ -103,8 +103,8 @@ extern "C" {
 #define CALDUVREN_POOL_UNCOVERED 3
 
 /*
- * The statuses. CALDUVREN_OK says that the call was answered, not that the answer is good: `yes`, `holds` and `clean`
- * say that. Functions share some of the numbers; each lists its own.
+ * The statuses. CALDUVREN_OK says that the call was answered, not that the answer is good: `yes`, `holds`, `clean` and
+ * a pool's `answer` say that. Functions share some of the numbers; each lists its own.
  */
 #define CALDUVREN_OK 0
 #define CALDUVREN_REFUSED_TEXT_TOO_LONG 1     /* the text has over 4,096 bytes */
@@ -131,7 +131,7 @@ extern "C" {
 #define CALDUVREN_REFUSED_TEXT_PART 22        /* the wire's part lies outside the text */
 #define CALDUVREN_REFUSED_ISW_ORDER 23        /* order of the multiplication not 1 to 7 */
 #define CALDUVREN_REFUSED_ISW_ROOM 24         /* the multiplication's text is longer than the buffer lent for it */
-#define CALDUVREN_REFUSED_FILED_REPORT 25     /* reports no multiple of 32 bytes, or one that no pool so asked takes */
+#define CALDUVREN_REFUSED_FILED_REPORT 25     /* reports no multiple of 32 bytes, or a report out of form */
 #define CALDUVREN_REFUSED_FIND 26             /* a report's found rank is not a breaking set */
 
 /* CALDUVREN_OK, or the number of a refusal. */
@@ -345,7 +345,7 @@ calduvren_status calduvren_filed_report(size_t notion, size_t size, uint64_t fro
  *   CALDUVREN_POOL_HOLDS      no report has one, and every rank of every size from 1 to the order is in a report.
  * Every found rank is checked again, a clean report is believed: where all of these are true, of this table, holds and
  * broken are calduvren_verdict's answers, though the set that it shows may be an earlier one. A report does not name its
- * table: keep those of different tables apart.
+ * table, and nothing notices a clean report of another one: keep those of different tables apart.
  *
  * The list may have any length. Reports in rising or in falling order are pooled in time linear in the list; in any other
  * order a pass over the list is made for some 256 reports of a size (65,536 shuffled ones: some tenth of a second).

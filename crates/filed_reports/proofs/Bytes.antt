@@ -6,6 +6,7 @@
 --     Fits, read-written     numbers that fit their bytes are read as they were written
 --     read-at           a report that stands in a list is the one that was written
 --     reports-none, reports-more     the reports of a list, one after the other
+--     report-bytes      two reports, to the byte
 use Prim.Native.Nat.{ℕ, suc, _+_, _*_, _/_, _^_, _≤_, _<_}
 use native.Mathlib.Nat.{div-mul-le-self}
 use native.Mathlib.Omega.{arith}
@@ -18,7 +19,7 @@ use Rattle.records.proofs.Fields.{byte-at}
 use Rattle.record_words.proofs.Written.{written-after}
 use Rattle.record_words.proofs.Encoding.{number-bytes}
 use Rattle.filed_reports.specs.declared.Report.{Report}
-use Rattle.filed_reports.specs.Bytes.{reportBytes, reportFrom, reportAt, reportCount, bytesOfReport}
+use Rattle.filed_reports.specs.Bytes.{reportBytes, allOnes, reportFrom, reportAt, reportCount, bytesOfReport}
 
 pub report-inside : (reports : List ℕ) (i : ℕ) → i < reportCount reports → reportBytes * i + reportBytes ≤ length reports
 report-inside reports i h =
@@ -134,3 +135,11 @@ reports-more b l e = (
     front k n h =
         ap (λ (m : List ℕ). number (take n m)) (drop-append-le k b l (omega (arith, h, e)))
         ∙ ap number (take-append-le n (drop k b) l (omega (arith, h, e, length-drop k b)))
+
+-- ---- to the byte, by running the definition: of NI, size 2, ranks 3 to 300, found at 259; of SNI, size 1, ranks 0 to 5, clean
+
+pub report-bytes : (bytesOfReport (record { notion = 1; size = 2; filling = 0; from = 3; to = 300; found = 259 })
+    ≡ 1 ∷ 2 ∷ 0 ∷ 0 ∷ 0 ∷ 0 ∷ 0 ∷ 0 ∷ 3 ∷ 0 ∷ 0 ∷ 0 ∷ 0 ∷ 0 ∷ 0 ∷ 0 ∷ 44 ∷ 1 ∷ 0 ∷ 0 ∷ 0 ∷ 0 ∷ 0 ∷ 0 ∷ 3 ∷ 1 ∷ 0 ∷ 0 ∷ 0 ∷ 0 ∷ 0 ∷ 0 ∷ [])
+    × (bytesOfReport (record { notion = 2; size = 1; filling = 0; from = 0; to = 5; found = allOnes })
+    ≡ 2 ∷ 1 ∷ 0 ∷ 0 ∷ 0 ∷ 0 ∷ 0 ∷ 0 ∷ 0 ∷ 0 ∷ 0 ∷ 0 ∷ 0 ∷ 0 ∷ 0 ∷ 0 ∷ 5 ∷ 0 ∷ 0 ∷ 0 ∷ 0 ∷ 0 ∷ 0 ∷ 0 ∷ 255 ∷ 255 ∷ 255 ∷ 255 ∷ 255 ∷ 255 ∷ 255 ∷ 255 ∷ [])
+report-bytes = (refl, refl)

@@ -2,7 +2,6 @@
 --     pools            text A's table, of 9 wires, at order 1: holds, uncovered at the start, between two reports and at the end
 --     breaks-shown     text B's, and a table that a pair breaks: what is shown
 --     pool-refusals    the refusals of a pool, on both sides of their limits
---     filed-bytes      the bytes of a report
 --     numbers          every answer in numbers
 use Prim.Native.Nat.{ℕ}
 use mathlib.Core.Path.{_≡_, refl}
@@ -63,10 +62,3 @@ pub numbers : (poolTold PoolAnswer.Holds ≡ values (1 ∷ [])) × (poolTold (Po
     × (poolTold (PoolAnswer.Uncovered 2 5) ≡ values (3 ∷ 2 ∷ 5 ∷ []))
     × (map refusalNumber (Tests NoSuchNotion ∷ Misfiled ∷ FalseFind ∷ []) ≡ 14 ∷ 25 ∷ 26 ∷ [])
 numbers = (refl, refl, refl, refl)
-
--- of NI, size 2, ranks 3 to 300, found at 259, and of SNI, size 1, clean: little-endian
-pub filed-bytes : (bytesOfReport (reportOf 1 2 3 300 259)
-    ≡ 1 ∷ 2 ∷ 0 ∷ 0 ∷ 0 ∷ 0 ∷ 0 ∷ 0 ∷ 3 ∷ 0 ∷ 0 ∷ 0 ∷ 0 ∷ 0 ∷ 0 ∷ 0 ∷ 44 ∷ 1 ∷ 0 ∷ 0 ∷ 0 ∷ 0 ∷ 0 ∷ 0 ∷ 3 ∷ 1 ∷ 0 ∷ 0 ∷ 0 ∷ 0 ∷ 0 ∷ 0 ∷ [])
-    × (bytesOfReport (reportOf 2 1 0 5 allOnes)
-    ≡ 2 ∷ 1 ∷ 0 ∷ 0 ∷ 0 ∷ 0 ∷ 0 ∷ 0 ∷ 0 ∷ 0 ∷ 0 ∷ 0 ∷ 0 ∷ 0 ∷ 0 ∷ 0 ∷ 5 ∷ 0 ∷ 0 ∷ 0 ∷ 0 ∷ 0 ∷ 0 ∷ 0 ∷ 255 ∷ 255 ∷ 255 ∷ 255 ∷ 255 ∷ 255 ∷ 255 ∷ 255 ∷ [])
-filed-bytes = (refl, refl)
