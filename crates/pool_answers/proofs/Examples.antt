@@ -3,27 +3,34 @@
 --     breaks-shown     text B's, and a table that a pair breaks: what is shown
 --     pool-refusals    the refusals of a pool, on both sides of their limits
 --     numbers          every answer in numbers
-use Prim.Native.Nat.{ℕ}
-use mathlib.Core.Path.{_≡_, refl}
+--     holds-refused, later-refused, uncovered-refused, rank-refused, agrees-refused     what the promises in words turn away, whatever the code
+use Prim.Native.Nat.{ℕ, zero, suc}
+use native.Mathlib.Nat.{not-suc-le-zero}
+use native.Mathlib.Omega.{arith}
+use mathlib.Core.Path.{_≡_, refl, sym, _∙_, ap}
+use mathlib.Core.Logic.{⊎-elim}
 use mathlib.Core.Bool.{xor}
 use mathlib.Core.List.{List, [], _∷_, _++_, map}
 use Rattle.basics.specs.Folds.{upTo}
-use Rattle.basics.specs.Told.{values, refusal}
+use Rattle.basics.specs.Told.{Told, Lent, values, refusal}
+use Rattle.basics.specs.Conditions.{Some}
 use Rattle.wires.specs.Wires.{countA, masked, breaks, beyond}
 use Rattle.records.specs.Words.{bit}
 use Rattle.counts.specs.Counts.{binom}
 use Rattle.revolving.specs.Order.{revolving}
 use Rattle.table.proofs.Examples.{tableA, tableB}
 use Rattle.breaking.specs.Breaking.{isBreaking}
-use Rattle.filed_reports.specs.Bytes.{allOnes, bytesOfReport}
-use Rattle.filed_reports.specs.Filed.{anyMisfiled, covered, reported}
+use Rattle.filed_reports.specs.Bytes.{allOnes, reportAt, bytesOfReport}
+use Rattle.filed_reports.specs.Filed.{anyMisfiled, covered, reported, Covers}
 use Rattle.filed_reports.specs.Places.{firstRank}
 use Rattle.finds.specs.Finds.{anyFalse}
 use Rattle.verdict_answers.specs.declared.Refusal.the-variants.{NoSuchNotion}
-use Rattle.verdict_answers.proofs.Examples.{pair}
+use Rattle.verdict_answers.proofs.Examples.{pair, two-wires}
 use Rattle.pool_answers.specs.declared.Refusal.the-variants.{Tests, Misfiled, FalseFind}
 use Rattle.pool_answers.specs.declared.PoolAnswer.{PoolAnswer}
 use Rattle.pool_answers.specs.Answers.{refusalNumber, poolTold, poolOf, reportOf}
+use Rattle.pool_answers.specs.Says.{PoolSays}
+use Rattle.pool_answers.specs.Agrees.{PoolAgrees}
 
 -- the bytes of a report under NI
 abbrev ni : ℕ → ℕ → ℕ → ℕ → List ℕ
@@ -62,3 +69,50 @@ pub numbers : (poolTold PoolAnswer.Holds ≡ values (1 ∷ [])) × (poolTold (Po
     × (poolTold (PoolAnswer.Uncovered 2 5) ≡ values (3 ∷ 2 ∷ 5 ∷ []))
     × (map refusalNumber (Tests NoSuchNotion ∷ Misfiled ∷ FalseFind ∷ []) ≡ 14 ∷ 25 ∷ 26 ∷ [])
 numbers = (refl, refl, refl, refl)
+
+-- ---- what the promises in words turn away, whatever the code
+
+four-pairs : binom 4 2 ≡ 6
+unfolding binom
+four-pairs = refl
+
+-- holds, where the pairs are in no report
+pub holds-refused : PoolSays PoolAnswer.Holds pair 3 1 1 2 (clean 1 0 4) → ⊥
+holds-refused p = go (p .holds refl .1 2 0 (omega arith) (omega arith) (omega (arith, four-pairs)))
+  where
+    go : Some 1 (λ i. Covers (reportAt (clean 1 0 4) i) 2 0) → ⊥
+    go (zero, h, c) = omega (arith, c .same)
+    go (suc i, h, c) = omega (arith, h)
+
+-- a find, where an earlier one is reported
+pub later-refused : PoolSays (PoolAnswer.Broken 1 7) tableB 2 1 1 1 (ni 1 6 9 7 ++ ni 1 6 9 6) → ⊥
+later-refused p =
+    ⊎-elim (λ h. omega (arith, h)) (λ h. omega (arith, h .1))
+    (p .broken 1 7 refl .first 1 6 (1, omega arith, record { found = λ e. omega (arith, e); same = refl; here = refl }))
+
+-- uncovered, where a find is reported
+pub uncovered-refused : PoolSays (PoolAnswer.Uncovered 1 0) tableB 2 1 1 1 (ni 1 6 9 6) → ⊥
+uncovered-refused p = p .uncovered 1 0 refl .0 1 6 (0, omega arith, record { found = λ e. omega (arith, e); same = refl; here = refl })
+
+-- uncovered, with a rank before it in no report
+pub rank-refused : PoolSays (PoolAnswer.Uncovered 1 5) tableA 2 1 1 1 (clean 1 0 4) → ⊥
+rank-refused p = go (p .uncovered 1 5 refl .1 .before 4 (omega arith))
+  where
+    go : Some 1 (λ i. Covers (reportAt (clean 1 0 4) i) 1 4) → ⊥
+    go (zero, h, c) = omega (arith, c .high)
+    go (suc i, h, c) = omega (arith, h)
+
+-- holds, with no report, of a table that a pair breaks: in words of the verdict alone
+pub agrees-refused : PoolAgrees PoolAnswer.Holds pair 3 1 1 2 [] → ⊥
+agrees-refused p =
+    let e = p .holds refl (record { clean = λ i h. absurd (not-suc-le-zero h) }) (9 ∷ 9 ∷ 9 ∷ []) (omega arith) in
+    let f = ap (λ (l : List Lent). told-of l) (two-wires .0) in
+    values-differ (sym (ap (λ (a : Lent). a .told) e) ∙ f)
+  where
+    told-of : List Lent → Told
+    told-of (a ∷ b ∷ l) = b .told
+    told-of (a ∷ []) = a .told
+    told-of [] = values []
+
+    values-differ : values [] ≡ values (2 ∷ []) → ⊥
+    values-differ same = let z : _≡_ {A = ℕ} 0 1 = cc in omega (arith, z)
