@@ -1,12 +1,9 @@
--- How far the ranks of a size are covered: with one report more, after a pass, after all passes, and over the sizes.
---     onward-none, onward-join       nothing more; one after the other
---     not-listed, other-size, starts-later, ends-sooner, extends     what a report adds
+-- How far the ranks of a size are covered: after a pass, after all passes, and over the sizes.
 --     Tried, tried-none, tried-more, tried-all      a pass that has added nothing has found each report that it tried not to cover the rank
 --     reach-stop, reach-end     pass after pass
 --     Covered, covered-none, covered-more, found-uncovered, none-uncovered     size after size
 use Prim.Native.Nat.{ℕ, _+_, _-_, _≤_, _<_}
-use native.Mathlib.Nat.{le-refl, eq-or-lt-of-le, not-suc-le-zero}
-use native.Mathlib.Decide.{decLt}
+use native.Mathlib.Nat.{not-suc-le-zero}
 use native.Mathlib.Omega.{arith}
 use mathlib.Core.Path.{_≡_, refl, sym, _∙_, ap, subst}
 use mathlib.Core.Logic.{_⊎_, inl, inr}
@@ -15,64 +12,15 @@ use mathlib.Core.List.{List}
 use Rattle.basics.proofs.Tests.{failed}
 use Rattle.basics.proofs.Numbers.{below-next}
 use Rattle.counts.specs.Counts.{binom}
-use Rattle.filed_reports.specs.declared.Report.{Report}
 use Rattle.filed_reports.specs.Bytes.{reportAt, reportCount}
-use Rattle.filed_reports.specs.Filed.{covers, covered, Covers}
+use Rattle.filed_reports.specs.Filed.{covers, covered}
 use Rattle.filed_reports.specs.Places.{PlaceIs}
 use Rattle.filed_reports.proofs.Filed.{covers-exactly, covered-exactly}
-use Rattle.coverage.specs.Coverage.{Onward, Reach}
-
--- ---- one report more
+use Rattle.extents.specs.Extents.{Onward}
+use Rattle.extents.proofs.Extents.{onward-none, onward-join, Extended}
+use Rattle.coverage.specs.Coverage.{Reach}
 
 module _ (reports : List ℕ) (size : ℕ) where
-  pub onward-none : (reach : ℕ) → Onward reports size reach reach
-  onward-none reach = record { rises = le-refl reach; between = λ rank low high. let z : ⊥ = omega (arith, low, high) in absurd z }
-
-  pub onward-join : (from reach to : ℕ) → Onward reports size from reach → Onward reports size reach to → Onward reports size from to
-  onward-join from reach to a b = record { rises = omega (arith, a .rises, b .rises); between = λ rank low high. at rank low high (decLt rank reach) }
-    where
-      at : (rank : ℕ) → from ≤ rank → rank < to → Dec (rank < reach) → covered reports size rank ≡ true
-      at rank low high (yes h) = a .between rank low h
-      at rank low high (no h) = b .between rank (omega (arith, h)) high
-
-  -- what `extended` promises
-  abbrev Extended : ℕ → ℕ → ℕ → Type 0
-  Extended i reach to =
-      Onward reports size reach to × (i < reportCount reports → to ≡ reach → covers (reportAt reports i) size reach ≡ false)
-
-  pub not-listed : (i reach : ℕ) → reportCount reports ≤ i → Extended i reach reach
-  not-listed i reach h = (onward-none reach, λ l e. let z : ⊥ = omega (arith, h, l) in absurd z)
-
-  module _ (i reach : ℕ) (r : Report) (is : r ≡ reportAt reports i) where
-    not-covering : (Covers r size reach → ⊥) → Extended i reach reach
-    not-covering n = (
-      onward-none reach,
-      λ l e. failed (covers (reportAt reports i) size reach)
-          (λ f. n (covers-exactly size reach r .0 (ap (λ (x : Report). covers x size reach) is ∙ f))),
-    )
-
-    pub other-size : (r .size ≡ size → ⊥) → Extended i reach reach
-    other-size d = not-covering (λ c. d (c .same))
-
-    pub starts-later : reach < r .from → Extended i reach reach
-    starts-later h = not-covering (λ c. omega (arith, h, c .low))
-
-    pub ends-sooner : r .to ≤ reach → Extended i reach reach
-    ends-sooner h = not-covering (λ c. omega (arith, h, c .high))
-
-    pub extends : i < reportCount reports → r .size ≡ size → r .from ≤ reach → reach < r .to → Extended i reach (r .to)
-    extends l same low high = (
-      record {
-        rises = omega (arith, high);
-        between = λ rank above below. covered-exactly size rank reports .1 (
-          i,
-          l,
-          subst (λ (x : Report). Covers x size rank) is (record { same = same; low = omega (arith, low, above); high = below }),
-        );
-      },
-      λ m e. let z : ⊥ = omega (arith, high, e) in absurd z,
-    )
-
   -- ---- a pass
 
   pub record Tried (from : ℕ) (backward : Bool) (turn reach : ℕ) : Type 0 where
@@ -81,13 +29,13 @@ module _ (reports : List ℕ) (size : ℕ) where
         → covers (reportAt reports (cond backward (reportCount reports - 1 - t) t)) size from ≡ false
 
   pub tried-none : (from : ℕ) (backward : Bool) → Tried from backward 0 from
-  tried-none from backward = record { onward = onward-none from; missed = λ e t h. absurd (not-suc-le-zero h) }
+  tried-none from backward = record { onward = onward-none reports size from; missed = λ e t h. absurd (not-suc-le-zero h) }
 
   pub tried-more : (from : ℕ) (backward : Bool) (turn reach to i : ℕ) → Tried from backward turn reach
-      → (i < reportCount reports) × (i ≡ cond backward (reportCount reports - 1 - turn) turn) → Extended i reach to
+      → (i < reportCount reports) × (i ≡ cond backward (reportCount reports - 1 - turn) turn) → Extended reports size i reach to
       → Tried from backward (turn + 1) to
   tried-more from backward turn reach to i tried at more =
-      record { onward = onward-join from reach to (tried .onward) (more .0); missed = λ e t h. go e t (below-next t turn h) }
+      record { onward = onward-join reports size from reach to (tried .onward) (more .0); missed = λ e t h. go e t (below-next t turn h) }
     where
       go : to ≡ from → (t : ℕ) → (t ≡ turn) ⊎ (t < turn) → covers (reportAt reports (cond backward (reportCount reports - 1 - t) t)) size from ≡ false
       go e t (inl same) =
@@ -106,7 +54,7 @@ module _ (reports : List ℕ) (size : ℕ) where
 
   pub tried-all : (from : ℕ) (backward : Bool) (turn reach to : ℕ) → Tried from backward turn reach → reportCount reports ≤ turn
       → Onward reports size reach to → Onward reports size from to × (to ≡ from → covered reports size from ≡ false)
-  tried-all from backward turn reach to tried h last = (onward-join from reach to (tried .onward) last, λ e. none (stay e))
+  tried-all from backward turn reach to tried h last = (onward-join reports size from reach to (tried .onward) last, λ e. none (stay e))
     where
       stay : to ≡ from → reach ≡ from
       stay e = omega (arith, e, tried .onward .rises, last .rises)

@@ -5,87 +5,18 @@ ghost use mathlib.Core.Bool.{false, cond, not};
 ghost use Prim.Native.Nat.{_-_, _≤_, _<_};
 ghost use Rattle.limits.specs.Limits.{maxWires, maxSize};
 ghost use Rattle.counts.specs.Counts.{binom, Counts};
-ghost use Rattle.filed_reports.specs.Bytes.{reportAt, reportCount};
-ghost use Rattle.filed_reports.specs.Filed.{covers, covered};
+ghost use Rattle.filed_reports.specs.Filed.{covered};
 ghost use Rattle.filed_reports.specs.Places.{PlaceIs};
-ghost use Rattle.coverage.specs.Coverage.{Onward, Reach};
+ghost use Rattle.extents.specs.Extents.{Onward};
+ghost use Rattle.coverage.specs.Coverage.{Reach};
 use counts::count;
+use extents::WINDOW;
+use extents::extended;
+use extents::note;
+use extents::through;
 use filed_reports::Place;
 use filed_reports::REPORT_BYTES;
-use filed_reports::report_at;
 use limits::COUNTS;
-
-// How many of the reports that start past what is covered a pass keeps in mind.
-const WINDOW: usize = 256;
-
-// How far the ranks are covered with one report more. Any number may be given for the report: what is not in the list covers nothing.
-fn extended(reports: &[u8], i: usize, size: usize, reach: u64) -> u64
-    ensures { λ r. ⌜ Onward (now (reports .entry)) size reach r ⌝ }
-    ensures { λ r. ⌜ (i < reportCount (now (reports .entry)) → r ≡ reach → covers (reportAt (now (reports .entry)) i) size reach ≡ false) ⌝ }
-{
-    if reports.len() / REPORT_BYTES <= i {
-        return reach;
-    }
-    let report = report_at(reports, i);
-    if report.size != size {
-        return reach;
-    }
-    if reach < report.from {
-        return reach;
-    }
-    if report.to <= reach {
-        return reach;
-    }
-    report.to
-}
-
-// Keeps a report that starts past what is covered in mind, if it is one of the nearest: `starts` rises, and `ahead` has the report of each. Nothing is
-// promised of these two lists: they only say which report to try next, and what is tried is looked at.
-fn note(
-    reports: &[u8],
-    i: usize,
-    size: usize,
-    reach: u64,
-    starts: &mut [u64; WINDOW],
-    ahead: &mut [usize; WINDOW],
-)
-    requires { ⌜ i < reportCount (now reports) ⌝ }
-{
-    let report = report_at(reports, i);
-    if report.size != size {
-        return;
-    }
-    let from = report.from;
-    if from <= reach {
-        return;
-    }
-    if starts[WINDOW - 1] <= from {
-        return;
-    }
-    let mut place = WINDOW - 1;
-    while 0 < place {
-        let lower = place - 1;
-        if starts[lower] <= from {
-            break;
-        }
-        starts[place] = starts[lower];
-        ahead[place] = ahead[lower];
-        place = lower;
-    }
-    starts[place] = from;
-    ahead[place] = i;
-}
-
-// How far the ranks are covered with the reports kept in mind, nearest first.
-fn through(reports: &[u8], size: usize, from: u64, ahead: &[usize; WINDOW]) -> u64
-    ensures { λ r. ⌜ Onward (now (reports .entry)) size from r ⌝ }
-{
-    let mut reach = from;
-    for i in 0..WINDOW {
-        reach = extended(reports, ahead[i], size, reach);
-    }
-    reach
-}
 
 // Which report a pass looks at next: from the first on, or from the last on.
 fn next_report(count: usize, turn: usize, backward: bool) -> usize

@@ -3,8 +3,9 @@
 use Prim.Native.Nat.{_-_}
 use native.Mathlib.Omega.{arith}
 use borrow.Author.Needs.{needs}
-use Rattle.coverage.proofs.Coverage.{onward-none, onward-join, reach-stop, reach-end}
-use Rattle.coverage.specs.Coverage.{Onward}
+use Rattle.extents.proofs.Extents.{onward-none, onward-join}
+use Rattle.coverage.proofs.Coverage.{reach-stop, reach-end}
+use Rattle.extents.specs.Extents.{Onward}
 use Rattle.coverage.proofs.covered_up_to.Tie as tie
 use Rattle.coverage.proofs.covered_up_to.Statement.{statement}
 

@@ -1,11 +1,11 @@
--- `coverage::through` meets its contract: each report that is tried adds ranks that it covers.
+-- `extents::through` meets its contract: each report that is tried adds ranks that it covers.
 -- Assumes nothing.
 use Prim.Native.Nat.{_-_}
 use borrow.Author.Needs.{needs}
-use Rattle.coverage.proofs.Coverage.{onward-none, onward-join}
-use Rattle.coverage.specs.Coverage.{Onward}
-use Rattle.coverage.proofs.through.Tie as tie
-use Rattle.coverage.proofs.through.Statement.{statement}
+use Rattle.extents.proofs.Extents.{onward-none, onward-join}
+use Rattle.extents.specs.Extents.{Onward}
+use Rattle.extents.proofs.through.Tie as tie
+use Rattle.extents.proofs.through.Statement.{statement}
 
 abbrev Inv-loop : tie.InvT-loop
 Inv-loop reports size from ahead reach₀ i₀ reach i = Onward reports size from reach

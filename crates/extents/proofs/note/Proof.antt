@@ -1,9 +1,9 @@
--- `coverage::note` meets its contract, which promises nothing: it ends, and writes within the two lists.
+-- `extents::note` meets its contract, which promises nothing: it ends, and writes within the two lists.
 -- Assumes nothing.
 use Prim.Native.Nat.{_<_}
 use borrow.Author.Needs.{needs}
-use Rattle.coverage.proofs.note.Tie as tie
-use Rattle.coverage.proofs.note.Statement.{statement}
+use Rattle.extents.proofs.note.Tie as tie
+use Rattle.extents.proofs.note.Statement.{statement}
 
 abbrev Inv-loop : tie.InvT-loop
 Inv-loop reports i size reach starts₀ ahead₀ from place₀ starts ahead place = place < 256

@@ -1,10 +1,10 @@
--- `coverage::extended` meets its contract: a report that does not cover the rank adds nothing, one that does adds its ranks.
+-- `extents::extended` meets its contract: a report that does not cover the rank adds nothing, one that does adds its ranks.
 -- Assumes nothing.
 use native.Mathlib.Omega.{arith}
 use borrow.Author.Needs.{needs}
-use Rattle.coverage.proofs.Coverage.{not-listed, other-size, starts-later, ends-sooner, extends}
-use Rattle.coverage.proofs.extended.Tie as tie
-use Rattle.coverage.proofs.extended.Statement.{statement}
+use Rattle.extents.proofs.Extents.{not-listed, other-size, starts-later, ends-sooner, extends}
+use Rattle.extents.proofs.extended.Tie as tie
+use Rattle.extents.proofs.extended.Statement.{statement}
 
 returns : tie.Need-returns
 returns c = not-listed _ _ _ _ (c .if1 .taken)
