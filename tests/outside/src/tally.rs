@@ -5,15 +5,18 @@ use crate::answers::{Answer, Entry, REQUIRED};
 use crate::reply::Reply;
 use std::collections::BTreeMap;
 
-const MOST_SHOWN: u64 = 10;
+const MOST_SHOWN: usize = 10;
 
 #[derive(Default)]
 pub struct Tally {
     answers: BTreeMap<(Entry, Answer), u64>,
-    occurrences: Vec<(&'static str, &'static str, u64)>,
+    expected: Vec<(&'static str, &'static str)>,
+    occurred: BTreeMap<(&'static str, &'static str), u64>,
     noticed: Vec<(String, u64)>,
     lines: Vec<String>,
     differences: u64,
+    /// The first of the differences.
+    shown: Vec<String>,
 }
 
 impl Tally {
@@ -40,25 +43,21 @@ impl Tally {
         }
     }
 
-    /// Counts a difference, and shows it if it is among the first.
+    /// Counts a difference, and keeps it to be shown if it is among the first.
     pub fn differs(&mut self, what: impl Fn() -> String) {
         self.differences += 1;
-        if self.differences <= MOST_SHOWN {
-            println!("DIFFERENCE {}", what());
+        if self.shown.len() < MOST_SHOWN {
+            self.shown.push(what());
         }
     }
 
-    /// Names what the inputs have to bring about, before they come.
+    /// Names what the inputs have to bring about, those of this pass or of another.
     pub fn expect(&mut self, group: &'static str, kinds: &[&'static str]) {
-        self.occurrences.extend(kinds.iter().map(|kind| (group, *kind, 0)));
+        self.expected.extend(kinds.iter().map(|kind| (group, *kind)));
     }
 
     pub fn occurs(&mut self, group: &'static str, kind: &'static str) {
-        let known = self
-            .occurrences
-            .iter_mut()
-            .find(|known| (known.0, known.1) == (group, kind));
-        known.expect("what occurs is expected").2 += 1;
+        *self.occurred.entry((group, kind)).or_default() += 1;
     }
 
     /// Names a wrong model that has to be noticed.
@@ -74,6 +73,30 @@ impl Tally {
 
     pub fn say(&mut self, line: String) {
         self.lines.push(line);
+    }
+
+    /// Takes over the books of a pass that comes after those that are in here. Both name the same wrong models.
+    pub fn merge(&mut self, next: Tally) {
+        for (answer, times) in next.answers {
+            *self.answers.entry(answer).or_default() += times;
+        }
+        self.expected.extend(next.expected);
+        for (kind, times) in next.occurred {
+            *self.occurred.entry(kind).or_default() += times;
+        }
+        for (name, times) in next.noticed {
+            let known = self.noticed.iter_mut().find(|known| known.0 == name);
+            known.expect("both name the same faults").1 += times;
+        }
+        self.lines.extend(next.lines);
+        self.differences += next.differences;
+        self.shown.extend(next.shown);
+        self.shown.truncate(MOST_SHOWN);
+    }
+
+    /// Shows the first differences.
+    pub fn print_differences(&self) {
+        self.shown.iter().for_each(|what| println!("DIFFERENCE {what}"));
     }
 
     /// Prints the books; whether there is no difference, nothing that was not reached and no fault unnoticed.
@@ -129,11 +152,18 @@ impl Tally {
     }
 
     fn print_occurrences(&self, missing: &mut Vec<String>) {
-        for kinds in self.occurrences.chunk_by(|one, next| one.0 == next.0) {
-            let counts: Vec<String> = kinds.iter().map(|(_, kind, times)| format!("{kind} {times}")).collect();
+        let is_expected = |kind: &(&'static str, &'static str)| self.expected.contains(kind);
+        assert!(self.occurred.keys().all(is_expected), "what occurs is expected");
+        for kinds in self.expected.chunk_by(|one, next| one.0 == next.0) {
+            let mut counts = Vec::new();
+            for (group, kind) in kinds {
+                let times = self.occurred.get(&(*group, *kind)).copied().unwrap_or(0);
+                counts.push(format!("{kind} {times}"));
+                if times == 0 {
+                    missing.push(format!("{group}: {kind}"));
+                }
+            }
             println!("{:15} {}", kinds[0].0, counts.join(", "));
-            let never = kinds.iter().filter(|(_, _, times)| *times == 0);
-            missing.extend(never.map(|(group, kind, _)| format!("{group}: {kind}")));
         }
     }
 }

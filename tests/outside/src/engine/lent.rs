@@ -2,7 +2,7 @@
 //! compared with its state before the call.
 
 use crate::reply::{Reply, MOST_NUMBERS};
-use std::sync::atomic::{AtomicU64, Ordering};
+use std::cell::Cell;
 
 const GUARD_BYTES: usize = 64;
 
@@ -12,8 +12,17 @@ const GUARD_BYTES: usize = 64;
 const FILLING_BITS: u64 = 0x8080_8080_8080_8080;
 const CLEAR_BITS: u64 = 0x0101_0101_0101_0101;
 
-/// The filling changes from call to call, so that a stray write of an equal byte is not hidden twice.
-static CALLS: AtomicU64 = AtomicU64::new(0);
+thread_local! {
+    /// The filling changes from call to call, so that a stray write of an equal byte is not hidden twice. Each thread
+    /// counts its own calls, so that no filling depends on what another thread does at the time.
+    static CALLS: Cell<u64> = const { Cell::new(0) };
+}
+
+/// For a thread that is started for one call: the call is counted here, and what is given back is done there first.
+pub fn count_for_thread() -> impl FnOnce() + Send {
+    let calls = CALLS.replace(CALLS.get() + 1);
+    move || CALLS.set(calls)
+}
 
 /// The bytes of a number, whether it is lent alone or in a row.
 const NUMBER_BYTES: usize = 8;
@@ -35,13 +44,11 @@ pub struct Lent {
 
 impl Lent {
     pub fn new() -> Lent {
-        let filling = CALLS
-            .fetch_add(1, Ordering::Relaxed)
-            .wrapping_mul(0xD6E8_FEB8_6659_FD93);
+        let calls = CALLS.replace(CALLS.get() + 1);
         Lent {
             block: Vec::new(),
             before: Vec::new(),
-            filling,
+            filling: calls.wrapping_mul(0xD6E8_FEB8_6659_FD93),
             end: 0,
         }
     }

@@ -4,7 +4,7 @@
 mod entries;
 mod lent;
 
-pub use lent::Lent;
+pub use lent::{count_for_thread, Lent};
 
 use crate::answers::Entry;
 use crate::model::pool::Filing;

@@ -75,7 +75,9 @@ pub fn run(random: &mut Random, tally: &mut Tally) {
 /// to itself then, so that no other should be made.
 pub fn within<T: Send + 'static>(limit: Duration, call: impl FnOnce() -> T + Send + 'static) -> Option<(T, Duration)> {
     let (sender, receiver) = channel();
+    let counted = engine::count_for_thread();
     let timed = move || {
+        counted();
         let start = Instant::now();
         let given = call();
         // Nobody may be waiting any more.
