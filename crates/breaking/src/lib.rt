@@ -1,5 +1,7 @@
 // The breaking test (scope, "Breaking sets"): whether a set keeps no mask and depends on more shares than its wires pay for. These functions are
 // in the inner loop of every search: they ask what `table_check` has tested, and test the masks before they count.
+#![tactic(auto)]
+
 ghost use Rattle.std.specs.Prelude.{◌≡◌, true, map, ◌≤◌, ◌<◌};
 ghost use Rattle.limits.specs.Limits.{max_shares, max_masks};
 ghost use Rattle.basics.specs.Folds.{one_if};

@@ -1,4 +1,6 @@
 // Which wires carry which mask: what a directed search looks up at each node. These functions ask what the entries have tested.
+#![tactic(auto)]
+
 ghost use Rattle.std.specs.Prelude.{◌≡◌, cond, suc, ◌≤◌, ◌<◌};
 ghost use Rattle.limits.specs.Limits.{max_masks, max_wires};
 ghost use Rattle.records.specs.Layout.{wire_count, terms_of};

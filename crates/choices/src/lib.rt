@@ -1,5 +1,7 @@
 // The wires that a directed search has chosen (docs/DECISIONS.md, "The directed verdict"): their marks, their rank, and what is kept of it. These
 // functions ask what the search has at hand.
+#![tactic(auto)]
+
 ghost use Rattle.std.specs.Prelude.{◌≡◌, ◌≤◌, ◌&&◌, eqb, length, take};
 ghost use Rattle.limits.specs.Limits.{max_shares, max_masks, max_table_bytes, max_wires, max_size};
 ghost use Rattle.counts.specs.Counts.{Counts};

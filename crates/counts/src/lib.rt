@@ -1,4 +1,6 @@
 // How many sets of a size there are: a table fixed in the source (scope, "Numbering and dividing").
+#![tactic(auto)]
+
 ghost use Rattle.std.specs.Prelude.{◌≡◌, ◌≤◌};
 ghost use Rattle.limits.specs.Limits.{max_wires, max_size};
 ghost use Rattle.counts.specs.Counts.{binom, Counts};

@@ -1,5 +1,7 @@
 // Which ranks the reports of a list cover: from rank 0 of a size on, and the first size and rank that no report covers. These functions ask what the
 // entries have tested.
+#![tactic(auto)]
+
 ghost use Rattle.std.specs.Prelude.{◌≡◌, false, cond, not, ◌-◌, ◌≤◌, ◌<◌};
 ghost use Rattle.limits.specs.Limits.{max_wires, max_size};
 ghost use Rattle.counts.specs.Counts.{binom, Counts};

@@ -1,5 +1,7 @@
 // Set dependence: of any set of wires on how many shares of each operand it depends, so that a designer sees which operand leaks.
 // Every argument may be anything its type holds: what is out of range is refused, in the scope's order.
+#![tactic(auto)]
+
 ghost use Rattle.std.specs.Prelude.{◌≡◌};
 ghost use Rattle.verdict_answers.specs.Answers.{dependence_told, set_dependence};
 ghost use Rattle.verdict_answers.specs.Dependence.{DependenceMeans};

@@ -1,5 +1,7 @@
 // The descent of a directed search (docs/DECISIONS.md, "The directed verdict"): from some wires to all breaking sets of a size that have them. It goes on only
 // with wires that carry one chosen mask of the sum so far. These functions ask what the entries have tested.
+#![tactic(auto)]
+
 ghost use Rattle.std.specs.Prelude.{◌≡◌, ◌≤◌, length};
 ghost use Rattle.limits.specs.Limits.{max_shares, max_masks, max_table_bytes, max_size};
 ghost use Rattle.counts.specs.Counts.{Counts};

@@ -1,4 +1,6 @@
 // What a description text says: the data that its readers share, the meaning of a text (in specs/) and what is true of it (in proofs/).
+#![tactic(auto)]
+
 ghost use Rattle.std.specs.Prelude.{◌≡◌};
 ghost use Rattle.description.specs.Run.{refusal_number};
 

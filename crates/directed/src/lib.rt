@@ -1,5 +1,7 @@
 // The directed verdict: the verdict's own answer without a visit to every set. Refusals, answers and promises are those of `verdict::verdict`, word for word.
 // Every argument may be anything its type holds: what is out of range is refused, in the scope's order, and a refusal alters no lent number.
+#![tactic(auto)]
+
 ghost use Rattle.std.specs.Prelude.{◌≡◌};
 ghost use Rattle.verdict_answers.specs.Answers.{verdict_told, verdict_of};
 ghost use Rattle.verdict_answers.specs.First.{VerdictFinds};

@@ -1,5 +1,7 @@
 // The directed search (docs/DECISIONS.md, "The directed verdict"): the first breaking set in rising size and rank without a visit to every set. Sizes rise, and of
 // each size the highest wire; below it the descent goes from mask to mask. These functions ask what the entries have tested.
+#![tactic(auto)]
+
 ghost use Rattle.std.specs.Prelude.{◌≤◌, ◌<◌, length};
 ghost use Rattle.limits.specs.Limits.{max_shares, max_masks, max_table_bytes, max_size};
 ghost use Rattle.counts.specs.Counts.{Counts};

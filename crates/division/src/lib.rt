@@ -1,5 +1,7 @@
 // The division of a size's sets over jobs: the ranks of a job (scope, "Numbering and dividing"). Every argument may be
 // anything its type holds: what is out of range is refused, in the scope's order.
+#![tactic(auto)]
+
 ghost use Rattle.std.specs.Prelude.{◌≡◌, ◌≤◌, ◌<◌};
 ghost use Rattle.division.specs.Answers.{job_told, job_ranks, max_jobs};
 ghost use Rattle.division.specs.Division.{start};

@@ -1,5 +1,7 @@
 // How far the ranks of a size are covered with one report more, and with the reports that start nearest past what is covered. These functions ask what the
 // entries have tested; `extended` and `through` ask nothing.
+#![tactic(auto)]
+
 ghost use Rattle.std.specs.Prelude.{◌≡◌, false, ◌<◌};
 ghost use Rattle.filed_reports.specs.Bytes.{report_at, report_count};
 ghost use Rattle.filed_reports.specs.Filed.{covers};

@@ -1,5 +1,7 @@
 // The lines of a report in which there is no verdict, each written to a page: of a text that is turned down, of what was read, of the function. They
 // see only what the function check promises, and ask for room on the page.
+#![tactic(auto)]
+
 ghost use Rattle.std.specs.Prelude.{◌≡◌, ◌≤◌, ◌+◌, length};
 ghost use Rattle.table.specs.Answers.{function_check};
 ghost use Rattle.pages.specs.Page.{Wrote};

@@ -1,5 +1,7 @@
 // The report of a range check, as machines file it: 32 bytes, read from a list of reports and written. These functions ask what the entries have
 // tested.
+#![tactic(auto)]
+
 ghost use Rattle.std.specs.Prelude.{◌≡◌, ◌<◌, length};
 ghost use Rattle.filed_reports.specs.Bytes.{report_bytes, report_at, report_count, bytes_of_report};
 

@@ -1,4 +1,6 @@
 // The tests that reports have to pass (25). These functions ask what the entries have tested.
+#![tactic(auto)]
+
 ghost use Rattle.std.specs.Prelude.{◌≡◌, not, ◌≤◌};
 ghost use Rattle.limits.specs.Limits.{max_wires, max_size};
 ghost use Rattle.counts.specs.Counts.{binom, Counts};

@@ -1,5 +1,7 @@
 // The report of a range check, written so that a pool takes it (request No. 5).
 // Every argument may be anything its type holds: what could stand in no report is refused, and a refusal alters no lent byte.
+#![tactic(auto)]
+
 ghost use Rattle.std.specs.Prelude.{◌≡◌, length};
 ghost use Rattle.filed_reports.specs.Bytes.{report_bytes};
 ghost use Rattle.pool_answers.specs.Answers.{filing_told, report_of, filed_as, filed_report};

@@ -1,5 +1,7 @@
 // What reports have found: whether each found rank is that of a breaking set (26), and the first of them. These functions ask what the entries have
 // tested.
+#![tactic(auto)]
+
 ghost use Rattle.std.specs.Prelude.{◌≡◌, false, not, ℕ, ◌≤◌, ◌<◌, length};
 ghost use Rattle.limits.specs.Limits.{max_shares, max_masks, max_table_bytes, max_size};
 ghost use Rattle.counts.specs.Counts.{binom, Counts};

@@ -1,5 +1,7 @@
 // Groups and items (scope, "The description text"): the group reader calls the item reader, and this one the group reader. The text that is
 // left and the parentheses that may still be opened fall.
+#![tactic(auto)]
+
 ghost use Rattle.std.specs.Prelude.{◌≡◌, false, ℕ, ◌≤◌, ◌<◌, length, get_or};
 ghost use Rattle.limits.specs.Limits.{max_shares, max_table_bytes};
 ghost use Rattle.description.specs.Bytes.{parts};

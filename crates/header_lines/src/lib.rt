@@ -1,4 +1,6 @@
 // The two header lines (scope, "The description text"). The inside of the reader: these functions ask what it has tested.
+#![tactic(auto)]
+
 ghost use Rattle.std.specs.Prelude.{◌≡◌, ◌≤◌, ◌<◌, length, drop};
 ghost use Rattle.description.specs.Header.{order_line, closed, larger, parted, names_from, masks_line};
 

@@ -1,5 +1,7 @@
 // The program isw: takes an order as its argument and prints the multiplication of Ishai, Sahai and Wagner at that order, a text for `report`.
 // Standard output gets the text and nothing else; for anything but an order that is written, standard error gets a line that says so.
+#![tactic(auto)]
+
 use console::arguments::{Argument, only_number};
 use console::output;
 use console::saying::{say, say_number};

@@ -1,5 +1,7 @@
 // The multiplication of Ishai, Sahai and Wagner (request No. 2): how its text is asked for and answered, what the text is (in specs/) and what is
 // true of it (in proofs/): it is read without refusal and computes the product, at every order.
+#![tactic(auto)]
+
 ghost use Rattle.std.specs.Prelude.{◌≡◌};
 ghost use Rattle.isw_gadget.specs.Answers.{refusal_number};
 

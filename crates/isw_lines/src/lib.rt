@@ -1,6 +1,8 @@
 // The lines of the text of `isw_gadget`, each written to a page where the one before it ends. How far that is, is bounded crudely: 16 bytes a part,
 // 192 a line, 1,600 for the header lines. So no length of a text stands in a contract, and the page has room for orders up to 10. The functions ask
 // for an order that is written and for room on the page: `isw_text` has the entry, which asks for nothing.
+#![tactic(auto)]
+
 ghost use Rattle.std.specs.Prelude.{◌≡◌, cond, [], ◌∷◌, ◌++◌, ◌≤◌, ◌<◌, ◌+◌, ◌*◌, eqb, length};
 ghost use Rattle.basics.specs.Folds.{up_to};
 ghost use Rattle.basics.specs.Quoted.{bytes};

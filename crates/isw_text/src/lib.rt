@@ -1,5 +1,7 @@
 // The multiplication of Ishai, Sahai and Wagner, written for an order (request No. 2). Any order and any buffer may be given: an order that is not
 // written, and a buffer that is too short, are refused, and the buffer is left as it was.
+#![tactic(auto)]
+
 ghost use Rattle.std.specs.Prelude.{◌≡◌};
 ghost use Rattle.isw_gadget.specs.Answers.{isw_told, isw_written};
 ghost use Rattle.isw_gadget.specs.Reads.{IswSays};

@@ -1,6 +1,8 @@
 // The verdict by either search: all tests, what is told and what is written, around the search that finds the first breaking set. The two searches promise the
 // same, so nothing here depends on which of them it is.
 // Every argument may be anything its type holds: what is out of range is refused, in the scope's order, and a refusal alters no lent number.
+#![tactic(auto)]
+
 ghost use Rattle.std.specs.Prelude.{◌≡◌, ◌≤◌, length};
 ghost use Rattle.limits.specs.Limits.{max_shares, max_masks, max_table_bytes, max_size};
 ghost use Rattle.records.specs.Layout.{wire_count};

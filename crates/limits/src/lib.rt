@@ -1,4 +1,5 @@
 // The numbers that the scope fixes and that tables, sets and texts share: each has one name here, and one in the definitions.
+#![tactic(auto)]
 
 // Shares of an operand.
 pub const MIN_SHARES: usize = 2;

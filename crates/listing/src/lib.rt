@@ -1,5 +1,7 @@
 // The wires as they are listed into a table of MAX_TABLE_BYTES bytes, and how far the reading has come. Wires are counted on past
 // MAX_WIRES, and written no more.
+#![tactic(auto)]
+
 ghost use Rattle.std.specs.Prelude.{◌≡◌, ◌≤◌, ◌<◌, length};
 ghost use Rattle.limits.specs.Limits.{max_shares, max_table_bytes};
 ghost use Rattle.record_words.specs.Symbols.{Small};

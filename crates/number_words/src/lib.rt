@@ -1,4 +1,6 @@
 // A number as a word of digits.
+#![tactic(auto)]
+
 ghost use Rattle.std.specs.Prelude.{◌≡◌};
 ghost use Rattle.basics.specs.Folds.{every};
 ghost use Rattle.description.specs.Bytes.{digit};

@@ -1,5 +1,7 @@
 // What every entry on a table and a notion begins with, and how a set that was found is written to the caller's buffer. No entries: `write` asks
 // for the room that the entries have tested.
+#![tactic(auto)]
+
 ghost use Rattle.std.specs.Prelude.{◌≡◌, ◌≤◌, length};
 ghost use Rattle.verdict_answers.specs.Answers.{written};
 ghost use Rattle.opening.specs.Opening.{opened_told, opens};

@@ -1,4 +1,6 @@
 // The operands that leak by a set, as a report names them after its wires. It sees only what the set dependence promises, and asks for room on the page.
+#![tactic(auto)]
+
 ghost use Rattle.std.specs.Prelude.{◌≤◌, ◌+◌, length};
 ghost use Rattle.verdict_answers.specs.Answers.{set_dependence};
 ghost use Rattle.pages.specs.Page.{Wrote};

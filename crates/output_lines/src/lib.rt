@@ -1,4 +1,6 @@
 // Output lines (scope, "The description text"): lines of spaces only, or empty, are skipped; each other line is one output share.
+#![tactic(auto)]
+
 ghost use Rattle.std.specs.Prelude.{◌≡◌, false, List, ℕ, ◌≤◌, ◌<◌, length};
 ghost use Rattle.limits.specs.Limits.{max_shares, max_table_bytes};
 ghost use Rattle.description.specs.Run.{max_text};

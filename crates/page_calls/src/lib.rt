@@ -1,4 +1,6 @@
 // What is written to a caller's page: the report, ISW written for an order.
+#![tactic(auto)]
+
 ghost use Rattle.std.specs.Prelude.{◌≡◌, [], ◌∷◌};
 ghost use Rattle.report_text.specs.Report.{report_text};
 ghost use Rattle.isw_gadget.specs.Answers.{isw_written};

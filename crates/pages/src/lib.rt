@@ -1,5 +1,7 @@
 // Bytes and numbers written to a page one after the other: each function is told where the next byte goes, and answers where the one after
 // its own goes.
+#![tactic(auto)]
+
 ghost use Rattle.std.specs.Prelude.{◌≤◌, ◌<◌, ◌+◌, ◌*◌, [], ◌∷◌, ◌++◌, length};
 ghost use Rattle.pages.specs.Decimal.{digit_byte, decimal};
 ghost use Rattle.pages.specs.Page.{Wrote, wire_numbers};

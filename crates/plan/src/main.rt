@@ -1,6 +1,8 @@
 // The program plan: reads a description text from standard input and prints what a check of it takes, for a person who books machines: the
 // gadget's figures, the number of sets of each size, and how long both verdicts may take. Its argument is the number of sets that a machine
 // looks at in a second. Standard output gets the plan and nothing else; where there is none, standard error says why.
+#![tactic(auto)]
+
 ghost use Rattle.std.specs.Prelude.{◌<◌};
 
 use console::arguments::{Argument, only_number};

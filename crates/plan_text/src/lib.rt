@@ -1,6 +1,8 @@
 // The size of a check beforehand (request No. 3): from a text alone, with no table lent, the figures that reading would give and the number of
 // wire sets of each size. The text may be anything: one that reading turns down gets reading's number and offset. `total` and `write_sets` are passed
 // on from `sets_by_size`.
+#![tactic(auto)]
+
 ghost use Rattle.std.specs.Prelude.{◌≡◌};
 ghost use Rattle.plan_text.specs.Answers.{size_told, check_size};
 ghost use Rattle.plan_text.specs.Says.{SizeSays};

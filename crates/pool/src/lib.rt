@@ -1,6 +1,8 @@
 // The pool of reports from many machines: broken where one has found a set, uncovered where a rank is in no report, else holds (request No. 5). The entry
 // that writes a report is passed on from `filing`, the types of the answers from `pool_answers`.
 // Every argument may be anything its type holds: what is out of range is refused, in the order of the requests. Nothing is lent to be written.
+#![tactic(auto)]
+
 ghost use Rattle.std.specs.Prelude.{◌≡◌};
 ghost use Rattle.pool_answers.specs.Answers.{pool_told, pool_of};
 ghost use Rattle.pool_answers.specs.Says.{PoolSays};

@@ -1,6 +1,8 @@
 // The answers of the entries of `pool`, and why each entry turns its arguments down (request No. 5).
 // What an entry is to answer is in specs/, and what follows from it, for all that the entries accept, in proofs/. Of the code both know these types
 // alone.
+#![tactic(auto)]
+
 ghost use Rattle.std.specs.Prelude.{◌≡◌};
 ghost use Rattle.pool_answers.specs.Answers.{refusal_number};
 

@@ -1,4 +1,6 @@
 // The pool of reports, and the writing of one, for callers in C.
+#![tactic(auto)]
+
 ghost use Rattle.std.specs.Prelude.{◌≡◌, [], ◌∷◌};
 ghost use Rattle.pool_answers.specs.Answers.{pool_of};
 ghost use Rattle.call_answers.specs.Calls.{got, answered, lent_answered};

@@ -1,6 +1,8 @@
 // The range check: whether a gadget's table holds NI or SNI at a range of ranks of one size, with the first breaking set where it does not, so that
 // machines can divide the search (scope, "Numbering and dividing" and "What each operation turns down").
 // Every argument may be anything its type holds: what is out of range is refused, in the scope's order, and a refusal alters no lent number.
+#![tactic(auto)]
+
 ghost use Rattle.std.specs.Prelude.{◌≡◌};
 ghost use Rattle.verdict_answers.specs.Answers.{range_told, range_check};
 ghost use Rattle.verdict_answers.specs.First.{RangeFinds};

@@ -1,5 +1,7 @@
 // The mask of a sum that fewest wires carry. It decides how quick a directed search is, not what it finds: all that is promised of the mask that is chosen
 // is that it is one of the sum's.
+#![tactic(auto)]
+
 ghost use Rattle.std.specs.Prelude.{◌≡◌, true, ◌≤◌, ◌<◌};
 ghost use Rattle.limits.specs.Limits.{max_masks, max_wires};
 ghost use Rattle.wires.specs.Wires.{masked};

@@ -1,6 +1,8 @@
 // The reader of descriptions, and the text part of a wire (scope, "The description text", "Wires" and "What each operation turns down").
 // Every argument may be anything its type holds: what is out of range is refused, in the scope's order, and a refusal alters no lent byte.
 // The type of reading's answer is passed on from `scratch_reader`.
+#![tactic(auto)]
+
 ghost use Rattle.std.specs.Prelude.{◌≡◌, ◌≤◌, ◌+◌, length, take, drop, ◌++◌};
 ghost use Rattle.reader.specs.Answers.{read_told, read_text, part_refusal_number, part_told, part_check, text_part, part_start};
 ghost use Rattle.reader.specs.Reads.{ReadsGrammar};

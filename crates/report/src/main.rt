@@ -1,6 +1,8 @@
 // The report program: reads a description text from standard input and prints the report on it. Standard output gets the report and nothing
 // else. Standard error gets what helps a reader: what is wrong with the function, how long the check will take, where a text is refused and
 // why, which parts of the text compute the wires of a break.
+#![tactic(auto)]
+
 ghost use Rattle.std.specs.Prelude.{◌≤◌, length};
 ghost use Rattle.report_lines.specs.Report.{max_report};
 

@@ -1,5 +1,7 @@
 // The lines of a report put together, each written to a page where the one before it ends. They see only what the reader and the lines themselves
 // promise.
+#![tactic(auto)]
+
 ghost use Rattle.std.specs.Prelude.{◌≡◌, ◌≤◌, ◌+◌, length};
 ghost use Rattle.pages.specs.Page.{Wrote};
 ghost use Rattle.report_lines.specs.Report.{max_report, checked, report};

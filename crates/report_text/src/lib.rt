@@ -1,5 +1,7 @@
 // The report on a description text (scope, "Report program and examples"): what was read, its function and both verdicts, or the refusal.
 // The lines are those of `report_lines`. Any text and any buffer may be lent: a buffer that is too short is refused and left as it was.
+#![tactic(auto)]
+
 ghost use Rattle.std.specs.Prelude.{◌≡◌, length};
 ghost use Rattle.report_text.specs.Report.{refusal_number, report_told, report_text, RoomEnough};
 

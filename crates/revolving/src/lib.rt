@@ -1,5 +1,7 @@
 // The order behind the entries: the set at a rank, the rank of a set. These functions ask what the entries have tested,
 // and take the table of counts from their caller, who holds it once for many calls.
+#![tactic(auto)]
+
 ghost use Rattle.std.specs.Prelude.{◌≡◌, true, ◌&&◌, ◌++◌, ◌+◌, ◌≤◌, ◌<◌, length, drop};
 ghost use Rattle.limits.specs.Limits.{max_wires, max_size};
 ghost use Rattle.counts.specs.Counts.{binom, Counts};

@@ -1,6 +1,8 @@
 // A walk over the sets of one size that keeps a tally of the set where it stands: the sum of its records, and how many of its wires pay. At the
 // start the tally is made from the whole set; from one set to the next one record leaves it and one enters. No record is copied. These functions
 // ask what the entries have tested.
+#![tactic(auto)]
+
 ghost use Rattle.std.specs.Prelude.{◌≡◌, ◌+◌, ◌≤◌, ◌<◌, length, get_or, take};
 ghost use Rattle.limits.specs.Limits.{max_wires, max_size};
 ghost use Rattle.basics.specs.Folds.{one_if};

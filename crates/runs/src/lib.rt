@@ -1,5 +1,7 @@
 // The inner loop of the search: sets that do not break are passed over while the lowest wire alone moves. These functions ask what the entries have
 // tested.
+#![tactic(auto)]
+
 ghost use Rattle.std.specs.Prelude.{◌≡◌, false, ℕ, ◌≤◌, ◌<◌, length};
 ghost use Rattle.limits.specs.Limits.{max_shares, max_masks, max_wires, max_size};
 ghost use Rattle.counts.specs.Counts.{binom};

@@ -1,5 +1,7 @@
 // Reading the whole text into a table of the calling code's own, none of a caller's being lent: what it holds after a refusal, and past the last
 // record, is nobody's concern. Refusal 10 is here for over 512 wires alone.
+#![tactic(auto)]
+
 ghost use Rattle.std.specs.Prelude.{◌≡◌, ◌≤◌, length};
 ghost use Rattle.limits.specs.Limits.{max_order, max_table_bytes};
 ghost use Rattle.description.specs.Header.{order_line};

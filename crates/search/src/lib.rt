@@ -1,5 +1,7 @@
 // The search behind verdict and range check: nested loops over size and rank, left by label with the breaking set. The first set of a size is worked
 // out from its rank; from there on the walk keeps set and tally. These functions ask what the entries have tested.
+#![tactic(auto)]
+
 ghost use Rattle.std.specs.Prelude.{◌≤◌, length};
 ghost use Rattle.limits.specs.Limits.{max_shares, max_masks, max_table_bytes, max_size};
 ghost use Rattle.counts.specs.Counts.{binom, Counts};

@@ -1,4 +1,6 @@
 // The numbering of wire sets and the jobs of a division.
+#![tactic(auto)]
+
 ghost use Rattle.std.specs.Prelude.{◌≡◌, [], ◌∷◌};
 ghost use Rattle.sets.specs.Answers.{set_count, set_from_rank, rank_from_set};
 ghost use Rattle.division.specs.Answers.{job_ranks};

@@ -1,6 +1,8 @@
 // The numbering of wire sets: how many sets of a size there are, the set at a rank, the rank of a set (scope, "Numbering
 // and dividing"). Every argument may be anything its type holds: what is out of range is refused, in the scope's order, and
 // a refusal alters no lent number.
+#![tactic(auto)]
+
 ghost use Rattle.std.specs.Prelude.{◌≡◌};
 ghost use Rattle.sets.specs.Answers.{refusal_number, count_told, set_told, rank_told, set_count, set_from_rank, rank_from_set};
 

@@ -1,4 +1,6 @@
 // The numbers of sets of each size up to an order, as a check of a text is told to take them, and all together (request No. 3).
+#![tactic(auto)]
+
 ghost use Rattle.std.specs.Prelude.{◌≡◌, ◌≤◌, ◌+◌, length, drop, ◌++◌};
 ghost use Rattle.limits.specs.Limits.{max_order, max_wires};
 ghost use Rattle.sets_by_size.specs.Counted.{counted, capped, total_of};

@@ -1,5 +1,7 @@
 // The shares on which a sum of records depends (scope, "Breaking sets"): the products folded to rows and to columns, and the single bits. These
 // functions are in the inner loop of every search.
+#![tactic(auto)]
+
 ghost use Rattle.std.specs.Prelude.{◌≡◌, ℕ, ◌≤◌, ◌<◌, ◌+◌, ◌*◌, ◌^◌};
 ghost use Rattle.limits.specs.Limits.{max_shares};
 ghost use Rattle.basics.specs.Folds.{some, up_to};

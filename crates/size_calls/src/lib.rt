@@ -1,4 +1,6 @@
 // The size of a check.
+#![tactic(auto)]
+
 ghost use Rattle.std.specs.Prelude.{◌≡◌, [], ◌∷◌};
 ghost use Rattle.plan_text.specs.Answers.{check_size};
 ghost use Rattle.call_answers.specs.Calls.{got, size_answered};

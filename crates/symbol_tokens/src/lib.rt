@@ -1,4 +1,6 @@
 // Symbols as they are read: the inside of the reader. These functions ask what it has tested.
+#![tactic(auto)]
+
 ghost use Rattle.std.specs.Prelude.{◌≡◌, ◌≤◌, length};
 ghost use Rattle.description.specs.Symbols.{mask_at, share_figure, share_of, share_digit, named_read, symbol_read};
 ghost use Rattle.symbol_tokens.specs.Digits.{is_product, is_share};

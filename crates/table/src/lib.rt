@@ -1,6 +1,8 @@
 // Wire tables: the tests that every operation on a table makes first, and the function check (scope, "Wires", "Breaking sets" and
 // "What each operation turns down"). Tables come from the reader of texts or from a buyer's own tools; nothing here knows the reader.
 // Every argument may be anything its type holds: what is out of range is refused, in the scope's order.
+#![tactic(auto)]
+
 ghost use Rattle.std.specs.Prelude.{◌≡◌, ◌<◌};
 ghost use Rattle.table.specs.Answers.{refusal_number, table_told, table_check, function_told, function_check, FunctionMeans};
 

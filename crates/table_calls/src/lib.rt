@@ -1,4 +1,6 @@
 // The operations on a wire table.
+#![tactic(auto)]
+
 ghost use Rattle.std.specs.Prelude.{◌≡◌, [], ◌∷◌};
 ghost use Rattle.basics.specs.Folds.{one_if};
 ghost use Rattle.table.specs.Answers.{function_check};

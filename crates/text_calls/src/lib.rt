@@ -1,4 +1,6 @@
 // Texts: reading, the text part of a wire.
+#![tactic(auto)]
+
 ghost use Rattle.std.specs.Prelude.{◌≡◌, [], ◌∷◌};
 ghost use Rattle.reader.specs.Answers.{read_text, part_check};
 ghost use Rattle.call_answers.specs.Calls.{got, answered, lent_read};

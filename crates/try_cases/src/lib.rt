@@ -1,5 +1,7 @@
 // The input of the programs that run cases: case after case, each a head of some bytes and then a table. The last two bytes of a head are
 // the table's length, the lower first.
+#![tactic(auto)]
+
 ghost use Rattle.std.specs.Prelude.{◌≡◌, ◌≤◌, ◌<◌, length};
 
 // A byte as a number.

@@ -2,6 +2,8 @@
 // lengths of two bytes, the lower first: of the lent table, of the text and of the rest. A reading, kind 0, has the text in its rest, which may
 // leave out the spaces at the text's end. A text part, any other kind, has there the wire's number in eight bytes, the lower first, the text
 // and the table. `tests/try_reader.py` writes the input, and works the output out from the scope.
+#![tactic(auto)]
+
 ghost use Rattle.std.specs.Prelude.{◌≡◌, ◌<◌, ◌≤◌, length};
 
 use limits::RECORD_BYTES;

@@ -1,5 +1,7 @@
 // Prints the report on each text that the file `index` lists, a name of a file on each line. Before each, its name on a line of its own.
 // `tests/try_report.py` writes the files, and works the output out from the scope.
+#![tactic(auto)]
+
 ghost use Rattle.std.specs.Prelude.{◌≤◌};
 
 use bytes::scan::find;

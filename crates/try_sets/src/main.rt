@@ -1,5 +1,7 @@
 // Prints what the entries of `sets` and of `division` answer: every set of up to three out of up to five wires and back, the
 // examples of the scope, and every refusal, on both sides of its limit. `tests/try_sets.py` works the same text out from the scope.
+#![tactic(auto)]
+
 use division::JobAnswer;
 use sets::{CountAnswer, RankAnswer, Refusal, SetAnswer};
 

@@ -1,6 +1,8 @@
 // Prints what `table_check` and `function_check` answer on the cases of its input, and how many small sets of an accepted table break. A case
 // is the shares, the masks and the function, a byte each, the table's length in two bytes, the lower first, and the table. `tests/try_table.py`
 // writes the input, and works the output out by trying every value of shares and masks.
+#![tactic(auto)]
+
 ghost use Rattle.std.specs.Prelude.{◌≤◌, ◌<◌};
 ghost use Rattle.records.specs.Layout.{wire_count};
 

@@ -1,5 +1,7 @@
 // 100,000 trips from a rank of seven out of 512 wires to its set and back, with the table of counts held once. It counts
 // those that come back to their rank. Timed from outside, this is the cost of the numbering.
+#![tactic(auto)]
+
 const TRIPS: u64 = 100000;
 
 ghost use Rattle.std.specs.Prelude.{◌≡◌, ◌<◌, ◌≤◌};

@@ -2,6 +2,8 @@
 // is the shares and the masks, a byte each, the table's length in two bytes, the lower first, and the table. Each table has a line of its own, and
 // each call on it another, with the whole buffer that was lent and a dash for a number that is as it was. `tests/try_verdict.py` writes the input,
 // and works the output out from the scope.
+#![tactic(auto)]
+
 ghost use Rattle.std.specs.Prelude.{◌≤◌, ◌<◌, length};
 
 use division::JobAnswer;

@@ -2,6 +2,8 @@
 // "What each operation turns down"). The range check and the set dependence are passed on from `ranges` and `dependence`, the types of the
 // answers from `verdict_answers`.
 // Every argument may be anything its type holds: what is out of range is refused, in the scope's order, and a refusal alters no lent number.
+#![tactic(auto)]
+
 ghost use Rattle.std.specs.Prelude.{◌≡◌};
 ghost use Rattle.verdict_answers.specs.Answers.{verdict_told, verdict_of};
 ghost use Rattle.verdict_answers.specs.First.{VerdictFinds};

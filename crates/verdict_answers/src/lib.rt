@@ -1,6 +1,8 @@
 // The answers of the entries of `verdict`, and why each entry turns its arguments down (scope, "What each operation turns down").
 // What an entry is to answer is in specs/, and what follows from it, for all that the entries accept, in proofs/. Of the code both know these types
 // alone.
+#![tactic(auto)]
+
 ghost use Rattle.std.specs.Prelude.{◌≡◌};
 ghost use Rattle.verdict_answers.specs.Answers.{refusal_number};
 

@@ -1,4 +1,6 @@
 // The two verdicts for callers in C: what is told stands once, for either search.
+#![tactic(auto)]
+
 ghost use Rattle.std.specs.Prelude.{◌≡◌, [], ◌∷◌};
 ghost use Rattle.verdict_answers.specs.Answers.{verdict_of};
 ghost use Rattle.call_answers.specs.Calls.{got, lent_judged};

@@ -1,5 +1,7 @@
 // The line of a notion in a report: what the verdict says, and of a break the wires and the operands that leak. It sees only what the verdict
 // promises, and asks for room on the page.
+#![tactic(auto)]
+
 ghost use Rattle.std.specs.Prelude.{◌≤◌, ◌+◌, ◌*◌, length};
 ghost use Rattle.verdict_answers.specs.Answers.{verdict_of, set_dependence};
 ghost use Rattle.pages.specs.Page.{Wrote};

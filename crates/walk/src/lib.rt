@@ -1,6 +1,8 @@
 // The walk over the sets of one size in the published order: from a set, in place, to the next one, with the wire that leaves and the wire
 // that enters. It needs no table of counts; how many places of a set it looks at is bounded on the average over all sets of a size. It knows no
 // record and no verdict.
+#![tactic(auto)]
+
 ghost use Rattle.std.specs.Prelude.{◌≡◌, true, ◌+◌, ◌≤◌, ◌<◌, length, get_or};
 ghost use Rattle.limits.specs.Limits.{max_wires};
 ghost use Rattle.revolving.specs.Order.{is_set};
