@@ -1,5 +1,5 @@
 // How a wire stands in a table: a record of RECORD_BYTES bytes, numbers little-endian (scope, "Wires").
-ghost use Rattle.std.specs.Prelude.{◌≡◌, ◌≤◌, ◌<◌, ◌+◌, ◌^◌, take, drop};
+ghost use Rattle.std.specs.Prelude.{◌≡◌, ◌≤◌, ◌<◌, ◌+◌, ◌^◌, take, drop, length};
 ghost use Rattle.records.specs.Words.{number};
 ghost use Rattle.records.specs.Layout.{wire_count, record_at, line_of, offset_of, length_of};
 
@@ -29,7 +29,7 @@ pub fn wide(byte: u8) -> u64
 
 // The number of four bytes.
 fn half_word(bytes: &[u8], at: usize) -> u64
-    requires* { do ⌜ at + 4 ≤ (← ⟦bytes.len()⟧) ⌝ }
+    requires { at + 4 ≤ length bytes.now }
     ensures { (result ≡ number (take 4 (drop at bytes.now))) × (result < 2 ^ 32) }
 {
     let low = wide(bytes[at]) + 256 * wide(bytes[at + 1]);
@@ -38,7 +38,7 @@ fn half_word(bytes: &[u8], at: usize) -> u64
 
 // The number of eight bytes.
 pub fn word(bytes: &[u8], at: usize) -> u64
-    requires* { do ⌜ at + 8 ≤ (← ⟦bytes.len()⟧) ⌝ }
+    requires { at + 8 ≤ length bytes.now }
     ensures { result ≡ number (take 8 (drop at bytes.now)) }
 {
     half_word(bytes, at) + 4294967296 * half_word(bytes, at + 4)
@@ -46,7 +46,7 @@ pub fn word(bytes: &[u8], at: usize) -> u64
 
 // The number of two bytes.
 fn short(bytes: &[u8], at: usize) -> usize
-    requires* { do ⌜ at + 2 ≤ (← ⟦bytes.len()⟧) ⌝ }
+    requires { at + 2 ≤ length bytes.now }
     ensures { result ≡ number (take 2 (drop at bytes.now)) }
 {
     let low = wide(bytes[at]) as usize;
