@@ -11,6 +11,7 @@ use Rattle.wires.specs.Wires.{total}
 use Rattle.records.specs.Layout.{wire_at, terms_of}
 use Rattle.records.proofs.Adding.{outers_taken, outers_left, whole_table}
 use Rattle.records.proofs.sums.sum_of_outers.Goals as goal
+use Rattle.records.proofs.sums.sum_of_outers.Goals.{then-is_outer, else-is_outer}
 
 pub loop-wire-init : goal.loop-wire-init
 unfolding up_to
@@ -19,12 +20,11 @@ loop-wire-init c = (zero-le, c.nothing-sum.ensures.result_value)
 pub loop-wire-preserved : goal.loop-wire-preserved
 loop-wire-preserved c = (
   omega (arith, c.loop-wire-test.true),
-  ⊎_elim
-      (λ w. ap terms_of w.2 ∙ w.1.ensures
-      ∙ outers_taken _ _ _ (sym c.is_outer.ensures ∙ w.0.taken) c.loop-wire.invariant.1)
-      (λ w. ap terms_of w.1 ∙ outers_left _ _ _ (sym c.is_outer.ensures ∙ w.0.left) c.loop-wire.invariant.1)
-      c.if-is_outer.branch,
+  elim c.if-is_outer.branch [
+    | then-is_outer w ↦ ap terms_of w.sum-is ∙ w.with_wire-sum.ensures ∙ outers_taken _ _ _ (sym c.is_outer.ensures ∙ w.if-is_outer.true) c.loop-wire.invariant.1
+    | else-is_outer w ↦ ap terms_of w.sum-is ∙ outers_left _ _ _ (sym c.is_outer.ensures ∙ w.if-is_outer.false) c.loop-wire.invariant.1
+  ],
 )
 
 pub returns : goal.returns
-returns c = whole_table _ _ _ (omega (arith, c.loop-wire-test.false, c.loop-wire.invariant.0)) c.loop-wire.invariant.1
+returns c = let all = whole_table _ _ _ (omega (arith, c.loop-wire-test.false, c.loop-wire.invariant.0)) c.loop-wire.invariant.1 in record { result_value = all.0; sum_of_values = all.1 }

@@ -23,4 +23,4 @@ loop-i-preserved c = (
 )
 
 pub returns : goal.returns
-returns c = whole_set _ _ _ _ c.loop-i-test.false c.loop-i.invariant.1
+returns c = let all = whole_set _ _ _ _ c.loop-i-test.false c.loop-i.invariant.1 in record { result_value = all.0; sum_of_values = all.1 }
