@@ -6,9 +6,9 @@ use Prim.Native.Nat.{ℕ, zero, suc, ◌+◌, ◌-◌, ◌≤◌, ◌<◌}
 use native.Mathlib.Omega.{arith}
 use mathlib.Core.Path.{◌≡◌, refl, sym, ◌∙◌, ap, ap₂}
 use mathlib.Core.Logic.{◌⊎◌, inl, inr}
-use mathlib.Core.List.{List, [], ◌∷◌, ◌++◌}
-use lib.ListN.{length, get_or, set, take, replicate, length-append, length-replicate, get_or-append}
-use lib.Seq.{set_at, append_snoc, get_or_at, get_or-append-add, take_at}
+use mathlib.Core.List.{List, [], ◌++◌}
+use lib.ListN.{length, get_or, set, replicate, length-append, length-replicate, get_or-append}
+use lib.Seq.{set_at, append_snoc, get_or_at, get_or-append-add}
 use Rattle.limits.specs.Limits.{max_order}
 use Rattle.counts.specs.Counts.{binom}
 use Rattle.sets_by_size.specs.Counted.{set_counts, counted}
