@@ -8,7 +8,7 @@ use super::layout::{MASKS_AT, OUTER_AT, SHARES_A_AT, SHARES_B_AT, word};
 use limits::RECORD_BYTES;
 
 // Records added bit by bit without carry: what stands in their first 18 bytes.
-#[derive(Drop)]
+#[derive(Clone, Copy)]
 pub struct Sum {
     pub products: u64,
     pub masks: u64,

@@ -3,7 +3,7 @@
 #![tactic(auto)]
 
 // The two notions of security against probes: non-interference, and the strong form in which an outer wire pays for no share.
-#[derive(Drop)]
+#[derive(Clone, Copy)]
 pub enum Notion {
     Ni,
     Sni,
