@@ -10,16 +10,15 @@
 --     room-low, room_more       there is room for the last digit, and for those before it
 --     wires_more, wires-all     the numbers of one wire more, of all of them
 use Prim.Native.Nat.{ℕ, suc, ◌+◌, ◌-◌, ◌/◌, ◌%◌, ◌≤◌, ◌<◌}
-use native.Mathlib.Nat.{le_refl}
 use native.Mathlib.Omega.{arith}
-use mathlib.Core.Path.{◌≡◌, refl, sym, ◌∙◌, ap, subst}
+use mathlib.Core.Path.{◌≡◌, refl, sym, ◌∙◌, ap, ap₂, subst}
 use mathlib.Core.Bool.{false, true≢false}
 use mathlib.Core.List.{List, [], ◌∷◌, ◌++◌, append_assoc, append-nil}
 use borrow.Author.Tests.{eq-eqb}
 use lib.Dec.{eqb}
-use lib.ListN.{length, length-append, take, drop, set, get_or, take-append-drop}
-use lib.Seq.{take-length, take_all, take-suc, length-take-le, drop-append-le, take-suc-set, drop-set-lt, drop-drop, take_at, drop_at}
-use borrow.Rule.Slice.PartMut.{mid_of, post_of, put_mid, mid_len}
+use lib.ListN.{length, length-append, take, drop, set, get_or}
+use lib.Seq.{take_all, take-suc, length-take-le, take-suc-set, drop-set-lt, drop-drop, take_at, drop_at}
+use borrow.Rule.Slice.PartMut.{put_mid, Post-is}
 use Rattle.basics.specs.Quoted.{bytes}
 use Rattle.basics.proofs.Folds.{fold-append}
 use Rattle.pages.specs.Decimal.{digit_byte, decimal}
@@ -45,22 +44,15 @@ wrote_after b at m c e n d f w x = record {
     past : (page : List ℕ) → drop f page ≡ drop (length n) (drop e page)
     past page = ap (λ (k : ℕ). drop k page) x.end_is ∙ sym (drop-drop (length n) e page)
 
--- the part of the page from the place on was written over, the bytes first
-pub wrote_copied : (page : List ℕ) (at : ℕ) (text part : List ℕ) → at + length text ≤ length page
-    → part ≡ take (length text) text ++ drop (length text) (mid_of at (length page - at) page)
-    → Wrote page at text (put_mid at (length page - at) page part) (at + length text)
+-- a part of the page, as long as the bytes, was written over by them
+pub wrote_copied : (page : List ℕ) (at : ℕ) (text part : List ℕ) → at + length text ≤ length page → part ≡ text
+    → Wrote page at text (put_mid at (at + length text - at) page part) (at + length text)
 wrote_copied page at text part room e =
     let start = take at page in
-    let mid = mid_of at (length page - at) page in
-    let post = post_of at (length page - at) page in
     let n = length text in
     let size : length (start ++ text) ≡ at + n = omega (arith, length-append start text, length-take-le at page (omega (arith, room))) in
-    let past : drop n mid ++ post ≡ drop (at + n) page =
-    sym (drop-append-le n mid post (omega (arith, room, mid_len at (length page) page (le_refl (length page)))))
-    ∙ ap (drop n) (take-append-drop (length page - at) (drop at page)) ∙ drop-drop n at page in
-    let whole : start ++ (part ++ post) ≡ (start ++ text) ++ drop (at + n) page =
-    ap (λ (l : List ℕ). start ++ (l ++ post)) (e ∙ ap (λ (l : List ℕ). l ++ drop n mid) (take-length text))
-    ∙ ap (λ (l : List ℕ). start ++ l) (append_assoc text (drop n mid) post ∙ ap (λ (l : List ℕ). text ++ l) past)
+    let whole : put_mid at (at + n - at) page part ≡ (start ++ text) ++ drop (at + n) page =
+    ap₂ (λ (l m : List ℕ). start ++ (l ++ m)) e (Post-is at (at + n) page (omega arith))
     ∙ sym (append_assoc start text (drop (at + n) page)) in
     record {
       end_is = refl;
@@ -68,18 +60,19 @@ wrote_copied page at text part room e =
       rest = ap (drop (at + n)) whole ∙ drop_at (start ++ text) (drop (at + n) page) (at + n) size;
     }
 
--- what a buffer holds after `bytes::copy` of the page up to its end
+-- what a buffer holds after the page up to its end was copied to the buffer's first bytes
 abbrev pub copied : List ℕ → ℕ → List ℕ → List ℕ
-copied page end buffer = take (length (take (end - 0) page)) (take (end - 0) page) ++ drop (length (take (end - 0) page)) buffer
+copied page end buffer = put_mid 0 (end - 0) buffer (take (end - 0) page)
 
 -- what was written to the page stands at the buffer's start, and what lies past it is as it was
 pub copied_start : (blank text page : List ℕ) (end : ℕ) (buffer held : List ℕ) → Wrote blank 0 text page end → held ≡ copied page end buffer
     → (end ≡ length text) × (held ≡ text ++ drop (length text) buffer)
-copied_start blank text page end buffer held w e = (
-  omega (arith, w.end_is),
-  e ∙ ap (λ (l : List ℕ). take (length l) l ++ drop (length l) buffer) (part-start end page ∙ w.stands)
-      ∙ ap (λ (l : List ℕ). l ++ drop (length text) buffer) (take-length text),
-)
+copied_start blank text page end buffer held w e =
+    let size : end ≡ length text = omega (arith, w.end_is) in
+    let size_0 : end - 0 ≡ length text = omega arith in (
+      size,
+      e ∙ ap₂ (λ (l : List ℕ) (n : ℕ). l ++ drop n buffer) (part-start end page ∙ w.stands) size_0,
+    )
 
 pub wrote_byte : (page : List ℕ) (at byte : ℕ) → at < length page → Wrote page at (byte ∷ []) (set page at byte) (at + 1)
 wrote_byte page at byte room =

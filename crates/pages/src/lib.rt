@@ -12,7 +12,7 @@ pub fn write_text(page: &mut [u8], at: usize, text: &[u8]) -> usize
     ensures wrote { Wrote page.old at text.now page.new result }
     ensures upper_bound { result ≤ at + length text.now }
 {
-    bytes::copy(text, &mut page[at..]);
+    page[at..at + text.len()].copy_from_slice(text);
     at + text.len()
 }
 
