@@ -8,7 +8,7 @@ use records::sums::Sum;
 use wires::Symbol;
 
 // A symbol, known with the place it starts.
-#[derive(Drop)]
+#[derive(Clone, Copy)]
 pub struct PlacedSymbol {
     pub place: usize,
     pub symbol: Symbol,
@@ -18,7 +18,7 @@ pub struct PlacedSymbol {
 pub const MAX_TEXT_BYTES: usize = 4096;
 
 // What a run of bytes is.
-#[derive(Drop)]
+#[derive(Clone, Copy)]
 pub enum SymbolAnswer {
     Known(Symbol),
     NoSuch,
@@ -26,35 +26,35 @@ pub enum SymbolAnswer {
 }
 
 // What stands where a mask's name is looked for.
-#[derive(Drop)]
+#[derive(Clone, Copy)]
 pub enum MaskName {
     Number(usize),
     NoName,
 }
 
 // What the first line gives.
-#[derive(Drop)]
+#[derive(Clone, Copy)]
 pub enum OrderLine {
     Order(usize),
     Wrong,
 }
 
 // What the second line declares: bit k for mask k, the mask count, and the place of the line's end.
-#[derive(Drop)]
+#[derive(Clone, Copy)]
 pub struct Masks {
     pub declared: u64,
     pub count: usize,
     pub end: usize,
 }
 
-#[derive(Drop)]
+#[derive(Clone, Copy)]
 pub enum MasksLine {
     Declared(Masks),
     Wrong,
 }
 
 // A wire as it is listed: the sum it holds, whether it is an outer one and of which output line, and the part of the text that computes it.
-#[derive(Drop)]
+#[derive(Clone, Copy)]
 pub struct Listed {
     pub sum: Sum,
     pub outer: bool,
@@ -64,7 +64,7 @@ pub struct Listed {
 }
 
 // An item that was read: its sum, and where it begins and ends, parentheses included.
-#[derive(Drop)]
+#[derive(Clone, Copy)]
 pub struct Item {
     pub sum: Sum,
     pub from: usize,
@@ -72,7 +72,7 @@ pub struct Item {
 }
 
 // An open group: the sum of its items so far, whether it has one, and the place of its first.
-#[derive(Drop)]
+#[derive(Clone, Copy)]
 pub struct Group {
     pub sum: Sum,
     pub filled: bool,
@@ -80,7 +80,7 @@ pub struct Group {
 }
 
 // Why a text is turned down.
-#[derive(Drop)]
+#[derive(Clone, Copy)]
 pub enum Refusal {
     TextTooLong,
     WrongOrderLine,

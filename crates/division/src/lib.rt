@@ -12,7 +12,7 @@ use sets::Refusal;
 pub const MAX_JOBS: u64 = 65536;
 
 // The ranks from one up to, without, the other.
-#[derive(Drop)]
+#[derive(Clone, Copy)]
 pub enum JobAnswer {
     Ranks { from: u64, to: u64 },
     Refused(Refusal),

@@ -29,7 +29,7 @@ const FOUND_AT: usize = 24;
 const RANK_BYTES: usize = 8;
 
 // What was checked, the ranks from one up to, without, the other, and a rank found to break, or `CLEAN`; the filling is 0.
-#[derive(Drop)]
+#[derive(Clone, Copy)]
 pub struct Report {
     pub notion: usize,
     pub size: usize,
@@ -70,7 +70,7 @@ pub fn write_report(report: Report, bytes: &mut [u8])
 }
 
 // A rank of a size; size 0 says that there is none.
-#[derive(Drop)]
+#[derive(Clone, Copy)]
 pub struct Place {
     pub size: usize,
     pub rank: u64,

@@ -14,7 +14,7 @@ use symbol_tokens::symbol_of;
 use tokens::bytes::{LINE_END, word_size};
 
 // How far the reading went, or why it stopped and where.
-#[derive(Drop)]
+#[derive(Clone, Copy)]
 pub enum Answer {
     Went(Progress),
     Stopped(Refusal, usize),

@@ -9,7 +9,7 @@ ghost use Rattle.isw_gadget.specs.Answers.{refusal_number};
 pub const MAX_ISW_ORDER: usize = 7;
 
 // Why no text is written.
-#[derive(Drop)]
+#[derive(Clone, Copy)]
 pub enum Refusal {
     OrderOutOfRange,
     TextDoesNotFit,
@@ -28,7 +28,7 @@ impl Refusal {
 }
 
 // Written gives the text's length.
-#[derive(Drop)]
+#[derive(Clone, Copy)]
 pub enum IswAnswer {
     Written { length: usize },
     Refused(Refusal),

@@ -18,7 +18,7 @@ use verdict_answers::{Refusal, VerdictAnswer};
 use wires::Notion;
 
 // How the first breaking set is looked for: set by set in the published order, or directed by the masks.
-#[derive(Drop)]
+#[derive(Clone, Copy)]
 pub enum Way {
     Walk,
     Directed,

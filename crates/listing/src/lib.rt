@@ -20,7 +20,7 @@ pub mod symbols;
 
 // How far the reading has come: the place in the text, the wires listed, the symbols used, the output lines done, whether this line has an
 // addition, the last symbol, and the innermost open group.
-#[derive(Drop)]
+#[derive(Clone, Copy)]
 pub struct Progress {
     pub at: usize,
     pub wires: usize,

@@ -11,7 +11,7 @@ use verdict_answers::Refusal;
 use wires::Notion;
 
 // The notion that was asked for, on a table that passed its tests.
-#[derive(Drop)]
+#[derive(Clone, Copy)]
 pub enum Opened {
     For(Notion),
     Refused(Refusal),

@@ -14,7 +14,7 @@ use sets_by_size::set_counts;
 pub use sets_by_size::{total, write_sets};
 
 // The figures of a text, the bytes of the table that it needs among them; or why the text is turned down, and the byte offset.
-#[derive(Drop)]
+#[derive(Clone, Copy)]
 pub enum SizeAnswer {
     Size {
         order: usize,
@@ -30,7 +30,7 @@ pub enum SizeAnswer {
 }
 
 // The answer, and beside it the number of sets of size k at k - 1, for the sizes from 1 to the order; the rest is 0.
-#[derive(Drop)]
+#[derive(Clone, Copy)]
 pub struct CheckSize {
     pub answer: SizeAnswer,
     pub sets: [u64; MAX_ORDER],

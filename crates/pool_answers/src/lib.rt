@@ -7,7 +7,7 @@ ghost use Rattle.std.specs.Prelude.{◌≡◌};
 ghost use Rattle.pool_answers.specs.Answers.{refusal_number};
 
 // Why an entry turns its arguments down. `Tests` are those of a verdict.
-#[derive(Drop)]
+#[derive(Clone, Copy)]
 pub enum Refusal {
     Tests(verdict_answers::Refusal),
     Misfiled,
@@ -28,7 +28,7 @@ impl Refusal {
 }
 
 // Broken gives the first size and rank found, uncovered the first that no report covers.
-#[derive(Drop)]
+#[derive(Clone, Copy)]
 pub enum PoolAnswer {
     Holds,
     Broken { size: usize, rank: u64 },
@@ -37,7 +37,7 @@ pub enum PoolAnswer {
 }
 
 // Filed: the report is written.
-#[derive(Drop)]
+#[derive(Clone, Copy)]
 pub enum FilingAnswer {
     Filed,
     Refused(Refusal),

@@ -13,7 +13,7 @@ use records::layout::text_place;
 pub use scratch_reader::ReadAnswer;
 
 // Why a text part is refused.
-#[derive(Drop)]
+#[derive(Clone, Copy)]
 pub enum PartRefusal {
     TableLength,
     NoSuchWire,
@@ -34,7 +34,7 @@ impl PartRefusal {
 }
 
 // Where the part of the text that computes a wire stands, or why there is none.
-#[derive(Drop)]
+#[derive(Clone, Copy)]
 pub enum PartAnswer {
     Part { offset: usize, length: usize },
     Refused(PartRefusal),

@@ -55,7 +55,7 @@ fn short(bytes: &[u8], at: usize) -> usize
 }
 
 // Where a wire stands in the text: its output line, and the offset and length of the part that computes it.
-#[derive(Drop)]
+#[derive(Clone, Copy)]
 pub struct TextPlace {
     pub line: u8,
     pub offset: usize,

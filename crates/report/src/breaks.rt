@@ -14,7 +14,7 @@ use verdict_answers::DependenceAnswer;
 const NO_WIRE: usize = 65536;
 
 // The numbers of a line that have been read, and the one that is being read.
-#[derive(Drop)]
+#[derive(Clone, Copy)]
 struct Numbers {
     size: usize,
     wire: usize,

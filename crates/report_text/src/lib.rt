@@ -9,7 +9,7 @@ ghost use Rattle.report_text.specs.Report.{refusal_number, report_told, report_t
 pub const MAX_REPORT: usize = 512;
 
 // Why a report is not written. The scope has no refusal for it; the number is that of an answer buffer that is too short.
-#[derive(Drop)]
+#[derive(Clone, Copy)]
 pub enum Refusal {
     BufferTooShort,
 }
@@ -26,7 +26,7 @@ impl Refusal {
 }
 
 // Written gives the report's length.
-#[derive(Drop)]
+#[derive(Clone, Copy)]
 pub enum ReportAnswer {
     Written { length: usize },
     Refused(Refusal),

@@ -23,14 +23,14 @@ use revolving::unrank;
 use wires::Notion;
 
 // The sum of a set's records, and how many of its wires pay for a share.
-#[derive(Drop)]
+#[derive(Clone, Copy)]
 pub struct Tally {
     pub sum: Sum,
     pub paid: usize,
 }
 
 // The lowest wire that a set has after a slide, and the set's tally.
-#[derive(Drop)]
+#[derive(Clone, Copy)]
 pub struct Slid {
     pub lowest: usize,
     pub tally: Tally,

@@ -17,7 +17,7 @@ use shares::ones::WORDS;
 use wires::Notion;
 
 // Where a walk stands.
-#[derive(Drop)]
+#[derive(Clone, Copy)]
 pub struct Stand {
     pub rank: u64,
     pub tally: Tally,

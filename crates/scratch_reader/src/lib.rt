@@ -16,7 +16,7 @@ use limits::MAX_WIRES;
 use output_lines::lines;
 
 // A text that was read gives its order, shares, mask count and wire count; one that is turned down, why and the byte offset.
-#[derive(Drop)]
+#[derive(Clone, Copy)]
 pub enum ReadAnswer {
     Read {
         order: usize,

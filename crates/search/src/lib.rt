@@ -19,7 +19,7 @@ use shares::ones::WORDS;
 use wires::Notion;
 
 // A breaking set by its size and rank; no size and the range's end where there is none.
-#[derive(Drop)]
+#[derive(Clone, Copy)]
 pub struct Found {
     pub size: usize,
     pub rank: u64,

@@ -9,7 +9,7 @@ ghost use Rattle.sets.specs.Answers.{refusal_number, count_told, set_told, rank_
 use limits::{MAX_SIZE, MAX_WIRES};
 
 // Why an entry, here or in `division`, turns its arguments down.
-#[derive(Drop)]
+#[derive(Clone, Copy)]
 pub enum Refusal {
     TooManyWires,
     SizeTooLarge,
@@ -35,19 +35,19 @@ impl Refusal {
     }
 }
 
-#[derive(Drop)]
+#[derive(Clone, Copy)]
 pub enum CountAnswer {
     Sets(u64),
     Refused(Refusal),
 }
 
-#[derive(Drop)]
+#[derive(Clone, Copy)]
 pub enum SetAnswer {
     Written,
     Refused(Refusal),
 }
 
-#[derive(Drop)]
+#[derive(Clone, Copy)]
 pub enum RankAnswer {
     Rank(u64),
     Refused(Refusal),

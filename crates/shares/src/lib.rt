@@ -15,14 +15,14 @@ use records::sums::Sum;
 pub mod ones;
 
 // The words of the shares on which a sum depends: bit i for share i.
-#[derive(Drop)]
+#[derive(Clone, Copy)]
 pub struct ShareWords {
     pub a: u64,
     pub b: u64,
 }
 
 // On how many shares of each operand a sum depends.
-#[derive(Drop)]
+#[derive(Clone, Copy)]
 pub struct ShareCounts {
     pub of_a: usize,
     pub of_b: usize,

@@ -13,7 +13,7 @@ use records::sums;
 mod tests;
 
 // Why an entry turns its arguments down.
-#[derive(Drop)]
+#[derive(Clone, Copy)]
 pub enum Refusal {
     SharesOrMasks,
     TableLength,
@@ -35,13 +35,13 @@ impl Refusal {
     }
 }
 
-#[derive(Drop)]
+#[derive(Clone, Copy)]
 pub enum TableAnswer {
     Accepted,
     Refused(Refusal),
 }
 
-#[derive(Drop)]
+#[derive(Clone, Copy)]
 pub enum FunctionAnswer {
     Yes,
     No,

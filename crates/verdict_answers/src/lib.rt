@@ -7,7 +7,7 @@ ghost use Rattle.std.specs.Prelude.{◌≡◌};
 ghost use Rattle.verdict_answers.specs.Answers.{refusal_number};
 
 // Why an entry turns its arguments down.
-#[derive(Drop)]
+#[derive(Clone, Copy)]
 pub enum Refusal {
     Table(table::Refusal),
     NoSuchNotion,
@@ -36,7 +36,7 @@ impl Refusal {
 }
 
 // Broken gives the size of the set that is written.
-#[derive(Drop)]
+#[derive(Clone, Copy)]
 pub enum VerdictAnswer {
     Holds,
     Broken { size: usize },
@@ -44,7 +44,7 @@ pub enum VerdictAnswer {
 }
 
 // Found gives the size of the set that is written, and its rank.
-#[derive(Drop)]
+#[derive(Clone, Copy)]
 pub enum RangeAnswer {
     Clean,
     Found { size: usize, rank: u64 },
@@ -52,7 +52,7 @@ pub enum RangeAnswer {
 }
 
 // On how many shares of a and of b the set depends, how many of each the notion allows it, and whether a mask is left in its sum.
-#[derive(Drop)]
+#[derive(Clone, Copy)]
 pub enum DependenceAnswer {
     Depends {
         of_a: usize,

@@ -10,7 +10,7 @@ ghost use Rattle.walk.specs.Neighbours.{Exchanged, HasNext, next_set};
 ghost use Rattle.walk.specs.Places.{limit, is_odd, room, Blocked};
 
 // The wire that left a set and the wire that entered it.
-#[derive(Drop)]
+#[derive(Clone, Copy)]
 pub struct Exchange {
     pub leaves: usize,
     pub enters: usize,

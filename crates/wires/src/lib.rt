@@ -10,7 +10,7 @@ pub enum Notion {
 }
 
 // What a symbol of a description names: the product of share i of a and share j of b, share i of a, share j of b, mask k.
-#[derive(Drop)]
+#[derive(Clone, Copy)]
 pub enum Symbol {
     Product(usize, usize),
     ShareA(usize),
