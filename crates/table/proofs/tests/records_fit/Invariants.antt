@@ -1,0 +1,13 @@
+use Prim.Native.Nat.{◌-◌, ◌≤◌}
+use mathlib.Core.Path.{◌≡◌}
+use mathlib.Core.Bool.{false}
+use Rattle.basics.specs.Folds.{some, up_to}
+use Rattle.table.specs.Answers.{wrong_record}
+use Rattle.records.specs.Layout.{record_at}
+use Rattle.table.proofs.tests.records_fit.Given as goal
+
+abbrev pub invariant-loop-wire : goal.invariant-loop-wire
+invariant-loop-wire l = (l.wire ≤ l.count) × (some (λ w. wrong_record l.shares l.masks (record_at l.table w)) (up_to l.wire) ≡ false)
+
+abbrev pub decreases-loop-wire : goal.decreases-loop-wire
+decreases-loop-wire l = l.count - l.wire
