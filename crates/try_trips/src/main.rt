@@ -8,18 +8,20 @@ ghost use Rattle.std.specs.Prelude.{◌≡◌, ◌<◌, ◌≤◌};
 ghost use Rattle.counts.specs.Counts.{binom, Counts};
 
 use limits::COUNTS;
+use std::io;
 
 const WIRES: usize = 512;
 
 const SIZE: usize = 7;
 
-fn main() {
+fn main(rt: HostRuntime) -> io::Result<()> {
     let table = counts::table();
     let all = counts::count(&table, WIRES, SIZE);
     if 0 < all {
-        io::print_decimal(1, trips(&table, all));
+        let returned = trips(&table, all);
+        print!(rt; "{returned}")?;
     }
-    io::write_all(1, b" of 100000 trips returned to their rank\n");
+    rt.print(" of 100000 trips returned to their rank\n")
 }
 
 // How many of the trips come back to their rank.
@@ -31,7 +33,7 @@ fn trips(table: &[u64; COUNTS], all: u64) -> u64
     let mut seed: u64 = 0;
     for trip in 0..TRIPS {
         // The golden ratio's step, modulo 2^64, spreads the ranks over the whole order.
-        seed = std::num::wrapping_add_u64(seed, 11400714819323198485);
+        seed = seed.wrapping_add(11400714819323198485);
         returned += there_and_back(table, seed % all);
     }
     returned
