@@ -2,7 +2,32 @@
 // the table's length, the lower first.
 #![tactic(auto)]
 
-ghost use Rattle.std.specs.Prelude.{◌≡◌, ◌≤◌, ◌<◌, length};
+ghost use Rattle.std.specs.Prelude.{◌≡◌, ◌≤◌, ◌<◌, length, IfOk};
+
+use std::io;
+use std::io::{ErrorKind, Read};
+
+// Reads until the buffer is full or the input ends, and gives how many bytes there are.
+pub fn read_cases(reader: &mut impl Read, cases: &mut [u8]) -> io::Result<usize>
+    ensures { IfOk result (λ end. end ≤ length cases.new) }
+{
+    let mut end = 0;
+    for _ in 0..u64::MAX {
+        if end == cases.len() {
+            break;
+        }
+        match reader.read(&mut cases[end..]) {
+            Ok(0) => break,
+            Ok(more) => end += more,
+            Err(error) => {
+                if error.kind() != ErrorKind::Interrupted {
+                    return Err(error);
+                }
+            }
+        }
+    }
+    Ok(end)
+}
 
 // A byte as a number.
 pub fn wide(x: u8) -> usize
