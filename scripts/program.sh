@@ -40,61 +40,97 @@ open_text() {
 }
 
 # ---- the program, proved and built where it is not
-program=target/bin/$name
+program=crates/$name/out/$name
 # dated at the start of the build that proved the program, so that what was saved while it ran is newer
 proved=target/$name.proved
+
+# usage: newer_than FILE
+# Names what is newer of all that a build goes by: the program, and the sources, of which what `rt` keeps is none.
+newer_than() {
+    find crates crates.txt "$program" -path 'crates/*/out' ! -path 'crates/*/*/out' -prune -o -newer "$1" -print
+}
 is_current() {
-    [ -x "$program" ] && [ -e "$proved" ] && [ -z "$(find crates crates.txt "$program" -newer "$proved" -print | head -n 1)" ]
+    [ -x "$program" ] && [ -e "$proved" ] && [ -z "$(newer_than "$proved" | head -n 1)" ]
 }
 
-# How many crates the build goes through: the program's own and those of this project that its line names.
-crate_count() {
-    count=1
-    for crate in $(sed -n "s/^$name: //p" crates.txt); do
-        [ ! -d "crates/$crate" ] || count=$((count + 1))
+# usage: crates_below NAME
+# The crates of this project that the crate's line names, which are all that it rests on.
+crates_below() {
+    for crate in $(sed -n "s/^$1: //p" crates.txt); do
+        [ ! -d "crates/$crate" ] || printf '%s\n' "$crate"
     done
-    printf '%s\n' "$count"
 }
 
-# Names each crate when it is proved: a build of minutes should not look like one that hangs.
-show_progress() {
-    all=$(crate_count)
-    done=0
-    while IFS= read -r line; do
-        printf '%s\n' "$line"
-        case $line in
-        'rt: '*' proved ('*)
+# usage: pass NAME..
+# Counts those crates in `done` that were not counted yet.
+pass() {
+    for crate in "$@"; do
+        case " $passed " in
+        *" $crate "*) ;;
+        *)
+            passed="$passed $crate"
             done=$((done + 1))
-            crate=${line#rt: }
-            say "$done of $all: ${crate%% *}"
             ;;
         esac
     done
 }
 
-# `rt` goes by the sources alone, and leaves what something else has put in the program's place. Without its stamp on
-# the crate it proves the crate and links the program anew.
-forget_changed() {
-    stamp=target/stamp/$name
-    if [ ! -x "$program" ] || [ ! -e "$stamp" ] || [ -n "$(find "$program" -newer "$stamp" -print)" ]; then
-        rm -f "$program" "$stamp"
-    fi
+# Names each crate when it is proved: a build of minutes should not look like one that hangs. `rt` goes from the lowest
+# crate up, and says nothing of one that was proved before: those below one that it names were.
+show_progress() {
+    passed=
+    done=0
+    pass "$name" $(crates_below "$name")
+    all=$done
+    passed=
+    done=0
+    proving=$name
+    while IFS= read -r line || [ -n "$line" ]; do
+        printf '%s\n' "$line"
+        case $line in
+        'crate '*': modules '*)
+            proving=${line#crate }
+            proving=${proving%%:*}
+            ;;
+        'logic=proved '*)
+            pass "$proving" $(crates_below "$proving")
+            say "$done of $all: $proving"
+            ;;
+        esac
+    done
+}
+
+# `rt run` goes by the sources, and by what it linked last: what something else has put in the program's place it does not
+# run, but links the program anew. A program that it linked it runs, whatever that comes to: here on nothing.
+link_program() {
+    (cd "crates/$name" && rt run < /dev/null 2>&1 > /dev/null) || :
+}
+
+# `rt` says that it runs the program where it has linked it, or finds nothing changed since it did, and in no other case.
+is_linked() {
+    sed -n "/^linked /{n;p;};/^rt: nothing has changed since the last proved build/{n;p;}" "$1" |
+        grep -q "^rt: running out/$name; "
 }
 
 # The files by which it goes are the program's own, so that where nothing locks, another program's build leaves them.
 build() {
-    say "building: every function is proved first, which takes some minutes"
+    say "building: every function is proved first, which takes some minutes, and much longer where nothing is proved yet"
     start=target/$name.start
     log=target/$name.log
     rm -f "$proved"
-    forget_changed
+    # `rt` would take it for its own, and fail to run it
+    [ -x "$program" ] || rm -f "$program"
+    # made by `rt`, they would date the crates' folders, and these tell whether a source is gone
+    for crate in crates/*/; do
+        mkdir -p "${crate}out"
+    done
     : > "$start"
-    rt check "$name" < /dev/null 2>&1 | show_progress > "$log"
-    if ! tail -n 1 "$log" | grep -q '^rt: ok, '; then
+    link_program | show_progress > "$log"
+    if ! is_linked "$log"; then
         tail -n 20 "$log" >&2
         give_up "the program could not be built; $log has it all"
     fi
-    [ -x "$program" ] || give_up "$program is gone, though nothing changed since it was built: remove target and try again"
+    [ -x "$program" ] || give_up "$program is gone, though it was just linked: try again"
     touch -r "$start" "$program"
     mv "$start" "$proved"
 }

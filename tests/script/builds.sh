@@ -2,8 +2,8 @@
 
 # ---- builds that fail
 log='*the prover says: 100% wrong
-rt: limits NOT PROVED*
-rt: FAILED: limits
+*
+rt: the library limits did not build*
 report: *could not be built*'
 kit "$fails"
 try 'a build that fails' 2 1 '' "$log" "$script" text
@@ -14,7 +14,7 @@ call "$script" text > "$room/out" 2>&-
 expect 'a build that fails, standard error closed' 2 1 '' ''
 kit "$builds"
 try 'a build that is mended' 0 1 "$report" "$built" "$script" text
-echo more >> "$folder/crates/limits/lib.rt"
+echo more >> "$folder/crates/limits/src/lib.rt"
 kit "$fails"
 try 'a change that is not proved' 2 1 '' "$log" "$script" text
 
@@ -24,13 +24,20 @@ no_build() {
     kit 'echo run >> "$room/runs"; '"$3"
     try "$1" 2 1 '' "$2" "$script" text
 }
-no_build 'rt is killed' '*could not be built*' 'echo "rt: basics proved (0 s)"; kill -9 $$'
+proved='echo "crate report: modules loaded=40 checked=12"; echo "logic=proved functions=12"'
+copied='mkdir -p out; cp "$room/programs/report" out'
+linked_it='echo "linked target=x86_64-unknown-linux-gnu"'
+runs_it='echo "rt: running out/report; to give it other input, run that file yourself"'
+no_build 'rt is killed' '*could not be built*' "{ $proved; } >&2; kill -9 \$\$"
 no_build 'rt says nothing' '*could not be built*' ':'
-no_build 'rt says something after its verdict' '*could not be built*' 'echo "rt: ok, 3 crates proved"; echo more'
-no_build 'rt links nothing' '*target/bin/report is gone*' 'echo "rt: ok, 3 crates proved"'
-no_build 'rt links, and fails' '*could not be built*' \
-    'mkdir -p target/bin; cp "$room/programs/report" target/bin; echo "rt: FAILED: report"'
+no_build 'rt says something before it runs' '*could not be built*' "{ $proved; $copied; $linked_it; echo more; $runs_it; } >&2"
+no_build 'rt links nothing' '*out/report is gone*' "{ $proved; $linked_it; $runs_it; } >&2"
+no_build 'rt links, and fails' '*could not be built*' "{ $proved; $copied; $linked_it; echo 'rt: the disk is full'; } >&2; exit 1"
 try 'rt linked, and failed' 2 1 '' '*could not be built*' "$script" text
+no_build 'rt runs what it did not link' '*could not be built*' "{ $proved; $copied; $runs_it; } >&2"
+no_build 'a program says that it is linked' '*could not be built*' "{ $proved; $copied; } >&2; $linked_it; $runs_it"
+no_build 'rt runs another program' '*could not be built*' \
+    "{ $proved; $copied; $linked_it; echo 'rt: running out/isw; to give it other input, run that file yourself'; } >&2"
 
 # ---- builds with something missing, closed or full
 kit "$builds"
@@ -62,43 +69,57 @@ try 'no tool for the lock' 0 1 "$report" "$built" "$script" text
 mv "$room/flock" "$room/tools/flock"
 
 # ---- what has changed since it was built, or while it was
-# usage: changed NAME COMMAND..
+# usage: changed NAME ERR COMMAND..
+# ERR is what the build then says.
 changed() {
     name=$1
-    shift
+    says=$2
+    shift 2
     "$@" || complain "$name" "it can not be changed so"
-    try "$name: built again" 0 1 "$report" "$built" "$script" text
+    try "$name: built again" 0 1 "$report" "$says" "$script" text
     try "$name: built once" 0 0 "$report" "$note" "$script" text
 }
 add_to() {
     echo more >> "$folder/$1"
 }
 replace_program() {
-    printf '#!/bin/sh\necho something else\n' > "$folder/target/bin/report"
+    printf '#!/bin/sh\necho something else\n' > "$folder/crates/report/out/report"
 }
+remove_all() {
+    rm -r "$folder/target" "$folder"/crates/*/out
+}
+limits_built="$building
+report: 2 of 3: limits
+report: 3 of 3: report
+$note"
 fresh_and_built
-changed 'a source changed' add_to crates/basics/lib.rt
-changed 'a source touched' touch "$folder/crates/report/lib.rt"
-changed 'a source added' add_to crates/report/more.rt
-changed 'a source removed' rm "$folder/crates/limits/lib.rt"
-changed 'the list of crates changed' add_to crates.txt
-changed 'the program touched' touch "$folder/target/bin/report"
-changed 'the program replaced' replace_program
-changed 'the program removed' rm "$folder/target/bin/report"
-changed 'the program not executable' chmod -x "$folder/target/bin/report"
-changed 'all removed' rm -r "$folder/target"
+changed 'a source changed' "$built" add_to crates/basics/src/lib.rt
+changed 'a source touched' "$unchanged" touch "$folder/crates/report/src/lib.rt"
+changed 'a source added' "$linked" add_to crates/report/src/more.rt
+changed 'a source removed' "$limits_built" rm "$folder/crates/limits/src/lib.rt"
+changed 'a folder of sources removed' "$built" rm -r "$folder/crates/basics/specs"
+changed 'the list of crates changed' "$built" add_to crates.txt
+changed 'the program touched' "$unchanged" touch "$folder/crates/report/out/report"
+changed 'the program replaced' "$linked" replace_program
+changed 'the program removed' "$linked" rm "$folder/crates/report/out/report"
+changed 'the program not executable' "$linked" chmod -x "$folder/crates/report/out/report"
+changed 'its own files removed' "$unchanged" rm -r "$folder/target"
+changed 'all removed' "$built" remove_all
+# what `rt` keeps is no source
+add_to crates/basics/out/kept
+try 'kept work changed' 0 0 "$report" "$note" "$script" text
 
-# what `rt` has built by itself, as in the gate, is not linked again
+# what `rt` has built by itself is not linked again
 rm "$folder/target/report.proved"
 program 'echo linked again'
-try 'built by rt alone' 0 1 "$report" "$built" "$script" text
+try 'built by rt alone' 0 1 "$report" "$unchanged" "$script" text
 program "$reports"
 
 fresh
-kit "$builds; sleep 0.02; echo more >> crates/basics/lib.rt"
+kit "$builds; sleep 0.02; echo more >> ../basics/src/lib.rt"
 try 'a source changed while it is built' 0 1 "$report" "$built" "$script" text
 kit "$builds"
-changed 'a source changed while it was built' :
+changed 'a source changed while it was built' "$built" :
 
 # ---- runs at the same time
 # usage: start_together NUMBER..

@@ -10,7 +10,7 @@ try 'the first run' 0 1 "$report" "$built" "$script" text
 try 'the second run' 0 0 "$report" "$note" "$script" text
 path=$without_kit
 try 'no kit, built' 0 0 "$report" "$note" "$script" text
-echo more >> "$folder/crates/basics/lib.rt"
+echo more >> "$folder/crates/basics/src/lib.rt"
 try 'no kit, a source changed' 2 0 '' "$no_kit" "$script" text
 path=$with_kit
 

@@ -6,6 +6,9 @@ text='the text of order 3'
 isw_built='isw: building: *
 isw: 1 of 2: basics
 isw: 2 of 2: isw'
+isw_linked='isw: building: *
+isw: 2 of 2: isw'
+isw_unchanged='isw: building: *'
 no_kit="isw: *'rt' has to be on the path"
 fresh
 path=$without_kit
@@ -14,7 +17,7 @@ path=$with_kit
 try 'isw, the first run' 0 1 "$text" "$isw_built" "$isw" 3
 path=$without_kit
 try 'isw, no kit, built' 0 0 "$text" '' "$isw" 3
-echo more >> "$folder/crates/limits/lib.rt"
+echo more >> "$folder/crates/limits/src/lib.rt"
 try 'isw, no kit, a source changed' 2 0 '' "$no_kit" "$isw" 3
 
 # ---- arguments: what can not be an order is told without the program, and what a number is worth by the program
@@ -65,43 +68,44 @@ kit "$fails"
 try 'isw, a build that fails' 2 1 '' '*the prover says: 100% wrong
 *
 isw: *could not be built; target/isw.log has it all' "$isw" 3
-kit 'echo run >> "$room/runs"; echo "rt: ok, 2 crates proved"'
-try 'isw, rt links nothing' 2 1 '' '*target/bin/isw is gone*' "$isw" 3
+kit 'echo run >> "$room/runs"; { echo "linked target=x86_64-unknown-linux-gnu"; echo "rt: running out/isw; and so on"; } >&2'
+try 'isw, rt links nothing' 2 1 '' '*crates/isw/out/isw is gone*' "$isw" 3
 # as Ctrl-C does, to all that the call has started
 kit 'echo run >> "$room/runs"; kill -TERM 0; sleep 20'
 try 'isw, interrupted while it is built' 2 1 '' 'isw: building: *
 isw: interrupted*' "$isw" 3
 kit "$builds"
-# usage: isw_changed NAME COMMAND..
+# usage: isw_changed NAME ERR COMMAND..
 isw_changed() {
     name=$1
-    shift
+    says=$2
+    shift 2
     "$@" || complain "$name" "it can not be changed so"
-    try "$name: isw built again" 0 1 "$text" "$isw_built" "$isw" 3
+    try "$name: isw built again" 0 1 "$text" "$says" "$isw" 3
     try "$name: isw built once" 0 0 "$text" '' "$isw" 3
 }
 replace_isw() {
-    printf '#!/bin/sh\necho something else\n' > "$folder/target/bin/isw"
+    printf '#!/bin/sh\necho something else\n' > "$folder/crates/isw/out/isw"
 }
-isw_changed 'builds that failed' :
-isw_changed 'a source changed' add_to crates/basics/lib.rt
-isw_changed 'the program replaced' replace_isw
-isw_changed 'the program removed' rm "$folder/target/bin/isw"
+isw_changed 'builds that failed' "$isw_built" :
+isw_changed 'a source changed' "$isw_built" add_to crates/basics/src/lib.rt
+isw_changed 'the program replaced' "$isw_linked" replace_isw
+isw_changed 'the program removed' "$isw_linked" rm "$folder/crates/isw/out/isw"
 rm "$folder/target/isw.proved"
 isw_program 'echo linked again'
-try 'isw, built by rt alone' 0 1 "$text" "$isw_built" "$isw" 3
+try 'isw, built by rt alone' 0 1 "$text" "$isw_unchanged" "$isw" 3
 isw_program "$writes"
 
 # ---- both in one folder: each program is built once, and what befalls the one is nothing to the other
 program "$reports"
-try 'report beside isw' 0 1 "$report" "$built" "$script" text
+try 'report beside isw' 0 1 "$report" "$limits_built" "$script" text
 try 'isw beside report' 0 0 "$text" '' "$isw" 3
-isw_changed 'isw replaced beside report' replace_isw
+isw_changed 'isw replaced beside report' "$isw_linked" replace_isw
 try 'report beside isw that was replaced' 0 0 "$report" "$note" "$script" text
-changed 'report replaced beside isw' replace_program
+changed 'report replaced beside isw' "$linked" replace_program
 try 'isw beside report that was replaced' 0 0 "$text" '' "$isw" 3
-changed 'a source of both changed' add_to crates/basics/lib.rt
-isw_changed 'a source of both changed' :
+changed 'a source of both changed' "$built" add_to crates/basics/src/lib.rt
+isw_changed 'a source of both changed' "$isw_linked" :
 try 'report, when isw is built too' 0 0 "$report" "$note" "$script" text
 
 # usage: start_both FIRST SECOND
@@ -129,13 +133,13 @@ who=1
 expect 'report and isw: report' 0 2 "$report" "$built"
 who=2
 expect 'report and isw: isw' 0 0 "$text" "isw: another run *
-$isw_built"
+$isw_linked"
 start_both isw report
 who=1
 expect 'isw and report: isw' 0 2 "$text" "$isw_built"
 who=2
 expect 'isw and report: report' 0 0 "$report" "report: another run *
-$built"
+$limits_built"
 who=
 kit "$builds"
 

@@ -8,6 +8,9 @@ plan_built='plan: building: *
 plan: 1 of 3: basics
 plan: 2 of 3: limits
 plan: 3 of 3: plan'
+plan_linked='plan: building: *
+plan: 3 of 3: plan'
+plan_unchanged='plan: building: *'
 no_kit="plan: *'rt' has to be on the path"
 fresh
 path=$without_kit
@@ -16,7 +19,7 @@ path=$with_kit
 try 'plan, the first run' 0 1 "$planned" "$plan_built" "$plan" text
 path=$without_kit
 try 'plan, no kit, built' 0 0 "$planned" '' "$plan" text
-echo more >> "$folder/crates/limits/lib.rt"
+echo more >> "$folder/crates/limits/src/lib.rt"
 try 'plan, no kit, a source changed' 2 0 '' "$no_kit" "$plan" text
 
 # ---- arguments: what can not be a rate is told without the program, and what a number is worth by the program
@@ -93,8 +96,8 @@ kit "$fails"
 try 'plan, a build that fails' 2 1 '' '*the prover says: 100% wrong
 *
 plan: *could not be built; target/plan.log has it all' "$plan" text
-kit 'echo run >> "$room/runs"; echo "rt: ok, 3 crates proved"'
-try 'plan, rt links nothing' 2 1 '' '*target/bin/plan is gone*' "$plan" text
+kit 'echo run >> "$room/runs"; { echo "linked target=x86_64-unknown-linux-gnu"; echo "rt: running out/plan; and so on"; } >&2'
+try 'plan, rt links nothing' 2 1 '' '*crates/plan/out/plan is gone*' "$plan" text
 # as Ctrl-C does, to all that the call has started
 kit 'echo run >> "$room/runs"; kill -TERM 0; sleep 20'
 try 'plan, interrupted while it is built' 2 1 '' 'plan: building: *
@@ -102,35 +105,36 @@ plan: interrupted*' "$plan" text
 kit "$builds"
 echo 'a pipe' | run "$plan" - 5
 expect 'plan, rt does not take the text' 0 1 'the plan at <5> for a pipe' "$plan_built"
-# usage: plan_changed NAME COMMAND..
+# usage: plan_changed NAME ERR COMMAND..
 plan_changed() {
     name=$1
-    shift
+    says=$2
+    shift 2
     "$@" || complain "$name" "it can not be changed so"
-    try "$name: plan built again" 0 1 "$planned" "$plan_built" "$plan" text
+    try "$name: plan built again" 0 1 "$planned" "$says" "$plan" text
     try "$name: plan built once" 0 0 "$planned" '' "$plan" text
 }
 replace_plan() {
-    printf '#!/bin/sh\necho something else\n' > "$folder/target/bin/plan"
+    printf '#!/bin/sh\necho something else\n' > "$folder/crates/plan/out/plan"
 }
-plan_changed 'a source changed' add_to crates/basics/lib.rt
-plan_changed 'the program replaced' replace_plan
-plan_changed 'the program removed' rm "$folder/target/bin/plan"
+plan_changed 'a source changed' "$plan_built" add_to crates/basics/src/lib.rt
+plan_changed 'the program replaced' "$plan_linked" replace_plan
+plan_changed 'the program removed' "$plan_linked" rm "$folder/crates/plan/out/plan"
 rm "$folder/target/plan.proved"
 plan_program 'echo linked again'
-try 'plan, built by rt alone' 0 1 "$planned" "$plan_built" "$plan" text
+try 'plan, built by rt alone' 0 1 "$planned" "$plan_unchanged" "$plan" text
 plan_program "$plans"
 
 # ---- all three in one folder: each program is built once, and what befalls the one is nothing to the others
 program "$reports"
 isw_program "$writes"
-try 'report beside plan' 0 1 "$report" "$built" "$script" text
-try 'isw beside plan' 0 1 'the text of order 3' "$isw_built" "$isw" 3
+try 'report beside plan' 0 1 "$report" "$linked" "$script" text
+try 'isw beside plan' 0 1 'the text of order 3' "$isw_linked" "$isw" 3
 try 'plan beside both' 0 0 "$planned" '' "$plan" text
-plan_changed 'plan replaced beside both' replace_plan
+plan_changed 'plan replaced beside both' "$plan_linked" replace_plan
 try 'report beside plan that was replaced' 0 0 "$report" "$note" "$script" text
 try 'isw beside plan that was replaced' 0 0 'the text of order 3' '' "$isw" 3
-changed 'report replaced beside plan' replace_program
+changed 'report replaced beside plan' "$linked" replace_program
 try 'plan beside report that was replaced' 0 0 "$planned" '' "$plan" text
 argument_of() {
     echo text
@@ -141,7 +145,7 @@ who=1
 expect 'report and plan: report' 0 2 "$report" "$built"
 who=2
 expect 'report and plan: plan' 0 0 "$planned" "plan: another run *
-$plan_built"
+$plan_linked"
 who=
 kit "$builds"
 

@@ -14,6 +14,8 @@ report: the program failed' 'printf "half a note" >&2; exit 1'
 does 'the program can not read' 2 '' 'report: standard input: X' 'echo "report: standard input: X" >&2'
 does 'the program can not print' 2 '' "$note
 report: standard output: X" 'echo "report: a note" >&2; printf "report: standard output: X" >&2'
+does 'the program can not print, and says so by its status too' 2 '' "$note
+report: standard output: X" 'echo "report: a note" >&2; printf "report: standard output: X" >&2; exit 1'
 does 'lines that are shown read like failures' 0 'refused' '    report: standard input: X
     report: the program failed' \
     'echo refused; printf "    %s\n" "report: standard input: X" "report: the program failed" >&2'
