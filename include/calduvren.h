@@ -1,7 +1,7 @@
 /*
  * Calduvren: a probing verifier for masked gadgets over bits, for callers in C and C++ on x86-64 Linux. A caller is
- * linked with `-L target/staticlib -lcalduvren`, after its own files; `rt staticlib calduvren` writes that library,
- * libcalduvren.a, which needs nothing but the C library.
+ * linked with `-L crates/calduvren/out -lcalduvren`, after its own files; `rt lib --cpu x86-64`, in the folder
+ * crates/calduvren, writes that library, libcalduvren.a, which needs nothing but the C library.
  *
  * A gadget computes on two operands, a and b, each a secret bit split into shares, and adds random bits, the masks.
  * A watcher reads a few of its wires. The functions below read a gadget's description into a table of its wires, tell

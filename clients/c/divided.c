@@ -13,8 +13,9 @@
  * files only at its end, so that a kill loses all of its sizes. What a process had written when it was killed while it
  * filed, as job-1-of-3.reports.4711 with the process at the end, stays in the folder and is not read.
  *
- * build: gcc -O2 -I include clients/c/divided.c -L target/staticlib -lcalduvren -o target/divided
- *        (in the repository's root; `rt staticlib calduvren` writes the library)
+ * build: gcc -O2 -I include clients/c/divided.c -L crates/calduvren/out -lcalduvren -o target/divided
+ *        (in the repository's root, with a folder `target` in it; `rt lib --cpu x86-64`, in the folder crates/calduvren,
+ *        writes the library)
  * usage: target/divided FILE JOBS FOLDER          the jobs 0 to JOBS - 1, but for those whose file is in FOLDER already
  *        target/divided FILE JOBS FOLDER JOB      this job alone, also where its file is there
  *        target/divided FILE JOBS FOLDER pool     no job: what the files in FOLDER come to

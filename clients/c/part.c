@@ -3,8 +3,9 @@
  * order, for NI and for SNI. A line for each notion and size is printed as soon as it is known. The order holds where
  * every job has printed "clean" for every size; a notion that is broken is done with.
  *
- * build: gcc -O2 -I include clients/c/part.c -L target/staticlib -lcalduvren -o target/part
- *        (in the repository's root; `rt staticlib calduvren` writes the library)
+ * build: gcc -O2 -I include clients/c/part.c -L crates/calduvren/out -lcalduvren -o target/part
+ *        (in the repository's root, with a folder `target` in it; `rt lib --cpu x86-64`, in the folder crates/calduvren,
+ *        writes the library)
  * usage: target/part FILE JOB JOBS        (jobs are numbered from 0)
  * exit status: 0 all lines were printed; 1 the text is refused; 2 no answer, the reason is on standard error
  */

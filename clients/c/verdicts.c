@@ -3,8 +3,9 @@
  * Below it stand the wires of the first breaking set, each with the part of the file that computes it, and on how many
  * shares their sum depends.
  *
- * build: gcc -O2 -I include clients/c/verdicts.c -L target/staticlib -lcalduvren -o target/verdicts
- *        (in the repository's root; `rt staticlib calduvren` writes the library)
+ * build: gcc -O2 -I include clients/c/verdicts.c -L crates/calduvren/out -lcalduvren -o target/verdicts
+ *        (in the repository's root, with a folder `target` in it; `rt lib --cpu x86-64`, in the folder crates/calduvren,
+ *        writes the library)
  * usage: target/verdicts FILE
  * exit status: 0 both verdicts were printed; 1 the text is refused; 2 no answer, the reason is on standard error
  */

@@ -6,10 +6,11 @@
  * name of a refusal is compared with the scope's number and with what the library gives in such a case.
  *
  * build: gcc -std=c11 -Wall -Wextra -pedantic -Werror -I include tests/header/header.c
- *            -L target/staticlib -lcalduvren -o target/header
+ *            -L crates/calduvren/out -lcalduvren -o target/header
  *        g++ -std=c++17 -Wall -Wextra -pedantic -Werror -I include -x c++ tests/header/header.c
- *            -L target/staticlib -lcalduvren -o target/header
- *        (each one line, in the repository's root; `rt staticlib calduvren` writes the library)
+ *            -L crates/calduvren/out -lcalduvren -o target/header
+ *        (each one line, in the repository's root, with a folder `target` in it; `rt lib --cpu x86-64`, in the folder
+ *        crates/calduvren, writes the library)
  * usage: target/header
  * exit status: 0 all names and calls agree; 1 what differs was printed
  */

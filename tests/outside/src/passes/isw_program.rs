@@ -11,7 +11,7 @@ use crate::tally::Tally;
 use std::ffi::OsString;
 use std::os::unix::ffi::OsStrExt;
 
-const PROGRAM: &str = "target/bin/isw";
+const PROGRAM: &str = "crates/isw/out/isw";
 
 /// Numbers outside 1 to 7. Most would be inside if only their low bits, or their first digits, were read.
 const OUTSIDE: [&str; 14] = [

@@ -15,7 +15,7 @@ use crate::random::Random;
 use crate::tally::Tally;
 use std::os::unix::ffi::OsStrExt;
 
-const PROGRAM: &str = "target/bin/plan";
+const PROGRAM: &str = "crates/plan/out/plan";
 /// So many children run at a time. They hardly do any work, and most of the time goes by in waiting for them.
 const AT_A_TIME: usize = 4;
 

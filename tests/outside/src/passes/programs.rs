@@ -15,7 +15,7 @@ use crate::random::Random;
 use crate::tally::Tally;
 use std::time::Duration;
 
-pub const PROGRAM: &str = "target/bin/report";
+pub const PROGRAM: &str = "crates/report/out/report";
 /// So many children run at a time.
 const AT_A_TIME: usize = 2;
 /// A child that takes longer hangs. The longest verdicts here are a matter of seconds, on a slow machine too.
