@@ -1,5 +1,6 @@
 // The argument of a program that takes a number and nothing else.
 use number_words::{is_number, number_of};
+use std::env::{Env, FillError};
 
 #[derive(Drop)]
 pub enum Argument {
@@ -10,21 +11,26 @@ pub enum Argument {
 }
 
 // The only argument. The buffer is as long as a number may be.
-pub fn only_number(buffer: &mut [u8]) -> Argument {
+pub fn only_number(rt: &impl Env, buffer: &mut [u8]) -> Argument {
     // the program's own name is the first
-    let count = os::arg_count();
-    if count < 2 {
-        return Argument::Missing;
-    }
-    if 2 < count {
+    if is_there(rt, 2) {
         return Argument::Other;
     }
-    let length = os::arg(1, buffer);
-    // it is longer than the buffer
-    if os::errno() != 0 {
-        return Argument::Other;
+    match rt.arg(1, buffer) {
+        Ok(length) => number_in(&buffer[0..length]),
+        Err(FillError::NotPresent) => Argument::Missing,
+        // it is longer than the buffer
+        Err(FillError::TooLong) => Argument::Other,
     }
-    number_in(&buffer[0..length])
+}
+
+// Whether there is an argument at the place, whatever it is.
+fn is_there(rt: &impl Env, place: usize) -> bool {
+    match rt.arg(place, &mut []) {
+        Ok(_) => true,
+        Err(FillError::TooLong) => true,
+        Err(FillError::NotPresent) => false,
+    }
 }
 
 fn number_in(word: &[u8]) -> Argument {

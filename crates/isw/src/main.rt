@@ -12,42 +12,45 @@ use isw_text::IswAnswer;
 // No number of more digits is an order.
 const MAX_DIGITS: usize = 32;
 
-fn main() {
+fn main(rt: HostRuntime) {
+    let notes = rt.stderr();
     let mut word = [0u8; MAX_DIGITS];
-    let argument = only_number(&mut word);
+    let argument = only_number(&rt, &mut word);
     match argument {
-        Argument::Number(order) => answer(order),
-        Argument::Missing => say_usage(),
-        Argument::Other => say_usage(),
+        Argument::Number(order) => answer(&rt, &notes, order),
+        Argument::Missing => say_usage(&notes),
+        Argument::Other => say_usage(&notes),
     }
 }
 
 // Which numbers are orders is the word of the entry alone.
-fn answer(order: usize) {
+fn answer(rt: &impl Print, notes: &impl Print, order: usize) {
     let mut text = [0u8; MAX_TEXT_BYTES];
     let written = isw_text::isw_text(order, &mut text);
     match written {
         IswAnswer::Written { length } => {
-            output::print(b"isw: standard output", &text[0..length]);
+            output::print(rt, notes, "isw: standard output", &text[0..length]);
         }
         // a buffer for the longest text is never too short
-        IswAnswer::Refused(why) => say_refused(why.number()),
+        IswAnswer::Refused(why) => say_refused(notes, why.number()),
     }
 }
 
-fn say_refused(number: u64) {
-    say_number(b"isw: refused ", number);
+fn say_refused(notes: &impl Print, number: u64) {
+    say_number(notes, b"isw: refused ", number);
     say_number(
+        notes,
         b": the order has to be a number from 1 to ",
         MAX_ISW_ORDER as u64,
     );
-    say(b"\n");
+    say(notes, b"\n");
 }
 
-fn say_usage() {
+fn say_usage(notes: &impl Print) {
     say_number(
+        notes,
         b"isw: usage: isw ORDER    (a number from 1 to ",
         MAX_ISW_ORDER as u64,
     );
-    say(b"; the text goes to standard output)\n");
+    say(notes, b"; the text goes to standard output)\n");
 }

@@ -21,39 +21,62 @@ struct Numbers {
 }
 
 // Goes by the report: its lines are the order, the function, NI and SNI, and a line that tells a break has the set's wires.
-pub fn explain(text: &[u8], table: &[u8], shares: usize, masks: usize, report: &[u8]) {
+pub fn explain(
+    notes: &impl Print,
+    text: &[u8],
+    table: &[u8],
+    shares: usize,
+    masks: usize,
+    report: &[u8],
+) {
     let function = lines::next(report, 0);
     let ni = lines::next(report, function);
     let sni = lines::next(report, ni);
     if stands(report, ni, b"NI broken") {
-        say_broken(b"NI", b"wires");
-        show_break(text, table, shares, masks, 1, &report[ni..sni]);
+        say_broken(notes, b"NI", b"wires");
+        show_break(notes, text, table, shares, masks, 1, &report[ni..sni]);
     }
     if stands(report, sni, b"SNI broken") {
-        say_broken(b"SNI", b"inner wires");
-        show_break(text, table, shares, masks, 2, &report[sni..]);
+        say_broken(notes, b"SNI", b"inner wires");
+        show_break(notes, text, table, shares, masks, 2, &report[sni..]);
     }
 }
 
-fn say_broken(notion: &[u8], counted: &[u8]) {
-    say(b"report: ");
-    say(notion);
+fn say_broken(notes: &impl Print, notion: &[u8], counted: &[u8]) {
+    say(notes, b"report: ");
+    say(notes, notion);
     say(
+        notes,
         b" is broken: these wires add up to a sum without masks that depends on more shares of a, or of b, than there are ",
     );
-    say(counted);
-    say(b"\n");
+    say(notes, counted);
+    say(notes, b"\n");
 }
 
 // Shows the wires whose numbers stand in a line of the report, and what they depend on.
-fn show_break(text: &[u8], table: &[u8], shares: usize, masks: usize, notion: usize, line: &[u8]) {
+fn show_break(
+    notes: &impl Print,
+    text: &[u8],
+    table: &[u8],
+    shares: usize,
+    masks: usize,
+    notion: usize,
+    line: &[u8],
+) {
     let mut set = [0u16; MAX_SIZE];
     let size = wires_of(line, &mut set);
-    show_set(text, table, &set[0..size]);
-    say_dependence(table, shares, masks, notion, &set[0..size]);
+    show_set(notes, text, table, &set[0..size]);
+    say_dependence(notes, table, shares, masks, notion, &set[0..size]);
 }
 
-fn say_dependence(table: &[u8], shares: usize, masks: usize, notion: usize, set: &[u16]) {
+fn say_dependence(
+    notes: &impl Print,
+    table: &[u8],
+    shares: usize,
+    masks: usize,
+    notion: usize,
+    set: &[u16],
+) {
     let answer = verdict::set_dependence(table, shares, masks, notion, set);
     match answer {
         DependenceAnswer::Depends {
@@ -62,10 +85,10 @@ fn say_dependence(table: &[u8], shares: usize, masks: usize, notion: usize, set:
             allowed,
             masked,
         } => {
-            say_number(b"    depends on ", of_a as u64);
-            say_number(b" of a's shares and ", of_b as u64);
-            say_number(b" of b's, ", allowed as u64);
-            say(b" of each allowed\n");
+            say_number(notes, b"    depends on ", of_a as u64);
+            say_number(notes, b" of a's shares and ", of_b as u64);
+            say_number(notes, b" of b's, ", allowed as u64);
+            say(notes, b" of each allowed\n");
         }
         // a set of the report is one of the table
         DependenceAnswer::Refused(why) => {}
@@ -73,16 +96,16 @@ fn say_dependence(table: &[u8], shares: usize, masks: usize, notion: usize, set:
 }
 
 // Shows each wire of a set, and what their sum names.
-fn show_set(text: &[u8], table: &[u8], set: &[u16]) {
+fn show_set(notes: &impl Print, text: &[u8], table: &[u8], set: &[u16]) {
     let mut sum = nothing();
     for i in 0..set.len() {
         let wire = set[i] as usize;
-        show_wire(text, table, wire);
+        show_wire(notes, text, table, wire);
         sum = added(sum, record_of(table, wire));
     }
-    say(b"    together:");
-    say_symbols(sum);
-    say(b"\n");
+    say(notes, b"    together:");
+    say_symbols(notes, sum);
+    say(notes, b"\n");
 }
 
 // Writes the numbers that stand in a line to a set, and answers how many. The line has its end, so that no number is the last of it.
@@ -133,28 +156,28 @@ fn with_digit(number: usize, digit: u8) -> usize
     (10 * number + digit_value(digit)) % NO_WIRE
 }
 
-fn show_wire(text: &[u8], table: &[u8], wire: usize) {
+fn show_wire(notes: &impl Print, text: &[u8], table: &[u8], wire: usize) {
     let place = reader::text_part_check(text, table, wire);
     match place {
         PartAnswer::Part { offset, length } => {
-            say_number(b"    wire ", wire as u64);
+            say_number(notes, b"    wire ", wire as u64);
             if offset <= text.len() {
-                say_number(b", line ", lines::number(text, offset));
+                say_number(notes, b", line ", lines::number(text, offset));
             }
-            say_kind(table, wire);
-            say(reader::text_part(text, table, wire));
-            say(b"\n");
+            say_kind(notes, table, wire);
+            say(notes, reader::text_part(text, table, wire));
+            say(notes, b"\n");
         }
         // a wire of the text that was read has its part
         PartAnswer::Refused(why) => {}
     }
 }
 
-fn say_kind(table: &[u8], wire: usize) {
+fn say_kind(notes: &impl Print, table: &[u8], wire: usize) {
     if wire < table.len() / RECORD_BYTES && is_outer(table, wire) {
-        say(b", outer: ");
+        say(notes, b", outer: ");
     } else {
-        say(b", inner: ");
+        say(notes, b", inner: ");
     }
 }
 

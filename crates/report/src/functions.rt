@@ -13,7 +13,7 @@ const SUM: usize = 2;
 const COPY: usize = 3;
 
 // Says that a table computes none of the three functions, and in which symbols it differs from the one that was probably meant.
-pub fn explain(table: &[u8], shares: usize, masks: usize) {
+pub fn explain(notes: &impl Print, table: &[u8], shares: usize, masks: usize) {
     if MAX_SHARES < shares {
         return;
     }
@@ -22,11 +22,14 @@ pub fn explain(table: &[u8], shares: usize, masks: usize) {
     }
     let sum = sum_of_outers(table);
     let function = meant(sum);
-    say(b"report: function other: the output lines differ from ");
-    say_function(function);
-    say(b" in");
-    say_symbols(added(sum, function_record(shares, function)));
-    say(b"\n");
+    say(
+        notes,
+        b"report: function other: the output lines differ from ",
+    );
+    say_function(notes, function);
+    say(notes, b" in");
+    say_symbols(notes, added(sum, function_record(shares, function)));
+    say(notes, b"\n");
 }
 
 fn computes_any(table: &[u8], shares: usize, masks: usize) -> bool {
@@ -58,12 +61,12 @@ fn meant(sum: Sum) -> usize {
     COPY
 }
 
-fn say_function(function: usize) {
+fn say_function(notes: &impl Print, function: usize) {
     if function == PRODUCT {
-        say(b"the product of a and b");
+        say(notes, b"the product of a and b");
     } else if function == SUM {
-        say(b"the sum of a and b");
+        say(notes, b"the sum of a and b");
     } else {
-        say(b"a copy of a");
+        say(notes, b"a copy of a");
     }
 }

@@ -17,25 +17,26 @@ mod functions;
 mod sizes;
 mod symbols;
 
-fn main() {
+fn main(rt: HostRuntime) {
+    let notes = rt.stderr();
     let mut text = [0u8; INPUT_BYTES];
-    let input = read_input(b"report: standard input", &mut text);
+    let input = read_input(&mut rt.stdin(), &notes, "report: standard input", &mut text);
     // a text that was read in part is no text
     if input.is_whole {
         let length = input.length;
-        answer(&text[0..length]);
+        answer(&rt, &notes, &text[0..length]);
     }
 }
 
 // The text is read here too, for the notes: the report itself is only printed.
-fn answer(text: &[u8]) {
+fn answer(rt: &impl Print, notes: &impl Print, text: &[u8]) {
     let mut table = [0u8; MAX_TABLE_BYTES];
     let read = reader::read_text(text, &mut table);
     match read {
         ReadAnswer::Refused { why, offset } => {
             let mut page = [0u8; MAX_REPORT];
-            if print_report(text, &mut page) > 0 {
-                refusals::explain(b"report", text, why, offset);
+            if print_report(rt, notes, text, &mut page) > 0 {
+                refusals::explain(notes, b"report", text, why, offset);
             }
         }
         ReadAnswer::Read {
@@ -44,36 +45,50 @@ fn answer(text: &[u8]) {
             masks,
             wires,
         } => {
-            answer_read(text, &table[0..RECORD_BYTES * wires], shares, masks);
+            answer_read(
+                rt,
+                notes,
+                text,
+                &table[0..RECORD_BYTES * wires],
+                shares,
+                masks,
+            );
         }
     }
 }
 
 // The report on a text that was read. Before a search that may take days all is said that is known without it.
-fn answer_read(text: &[u8], table: &[u8], shares: usize, masks: usize) {
+fn answer_read(
+    rt: &impl Print,
+    notes: &impl Print,
+    text: &[u8],
+    table: &[u8],
+    shares: usize,
+    masks: usize,
+) {
     let sets = sizes::sets_to_look_at(text);
     let is_long = sizes::is_long(sets);
     if is_long {
-        functions::explain(table, shares, masks);
-        sizes::warn(sets);
+        functions::explain(notes, table, shares, masks);
+        sizes::warn(notes, sets);
     }
     let mut page = [0u8; MAX_REPORT];
-    let length = print_report(text, &mut page);
+    let length = print_report(rt, notes, text, &mut page);
     if !is_long && length > 0 {
-        functions::explain(table, shares, masks);
+        functions::explain(notes, table, shares, masks);
     }
-    breaks::explain(text, table, shares, masks, &page[0..length]);
+    breaks::explain(notes, text, table, shares, masks, &page[0..length]);
 }
 
 // Prints the report and answers its length, or 0 where it could not be printed.
-fn print_report(text: &[u8], page: &mut [u8]) -> usize
+fn print_report(rt: &impl Print, notes: &impl Print, text: &[u8], page: &mut [u8]) -> usize
     requires { max_report ≤ length page.old }
     ensures { result ≤ length page.new }
 {
     let answer = report_text::report(text, page);
     match answer {
         ReportAnswer::Written { length } => {
-            if output::print(b"report: standard output", &page[0..length]) {
+            if output::print(rt, notes, "report: standard output", &page[0..length]) {
                 return length;
             }
             0

@@ -17,17 +17,18 @@ pub fn is_long(sets: u64) -> bool {
 }
 
 // Says how long a visit to each of so many sets takes. How many of them the search passes over is not known before it has ended.
-pub fn warn(sets: u64) {
-    say_number(b"report: up to ", sets);
-    say(b" sets to look at, some ");
-    say_time(sets / SETS_A_SECOND);
+pub fn warn(notes: &impl Print, sets: u64) {
+    say_number(notes, b"report: up to ", sets);
+    say(notes, b" sets to look at, some ");
+    say_time(notes, sets / SETS_A_SECOND);
     say(
+        notes,
         b" if each is visited, mostly far less; docs/GUIDE.md tells how to divide them over machines\n",
     );
 }
 
-fn say_time(seconds: u64) {
+fn say_time(notes: &impl Print, seconds: u64) {
     let mut words = [0u8; TIME_BYTES];
     let end = write_time(&mut words, 0, seconds);
-    say(&words[0..end]);
+    say(notes, &words[0..end]);
 }

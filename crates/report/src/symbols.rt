@@ -20,11 +20,11 @@ const MASKS: usize = SHARES_B + MAX_SHARES;
 const SYMBOLS: usize = MASKS + MAX_MASKS;
 
 // Says each symbol of a sum, a space before it.
-pub fn say_symbols(sum: Sum) {
+pub fn say_symbols(notes: &impl Print, sum: Sum) {
     for place in 0..SYMBOLS {
         let symbol = symbol_at(place);
         if is_in(symbol, sum) {
-            say_symbol(symbol);
+            say_symbol(notes, symbol);
         }
     }
 }
@@ -65,14 +65,14 @@ fn symbol_at(place: usize) -> Symbol
     Symbol::Mask(place - MASKS)
 }
 
-fn say_symbol(symbol: Symbol) {
+fn say_symbol(notes: &impl Print, symbol: Symbol) {
     match symbol {
         Symbol::Product(i, j) => {
-            say_number(b" s", i as u64);
-            say_number(b"", j as u64);
+            say_number(notes, b" s", i as u64);
+            say_number(notes, b"", j as u64);
         }
-        Symbol::ShareA(i) => say_number(b" a", i as u64),
-        Symbol::ShareB(j) => say_number(b" b", j as u64),
-        Symbol::Mask(k) => say_number(b" r", k as u64),
+        Symbol::ShareA(i) => say_number(notes, b" a", i as u64),
+        Symbol::ShareB(j) => say_number(notes, b" b", j as u64),
+        Symbol::Mask(k) => say_number(notes, b" r", k as u64),
     }
 }

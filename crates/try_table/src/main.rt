@@ -7,13 +7,10 @@ ghost use Rattle.std.specs.Prelude.{◌≤◌, ◌<◌};
 ghost use Rattle.records.specs.Layout.{wire_count};
 
 use limits::RECORD_BYTES;
+use std::io;
 use table::{FunctionAnswer, Refusal, TableAnswer};
-use try_cases::{case_end, wide};
+use try_cases::{case_end, read_cases, wide};
 use wires::Notion;
-
-const STDIN: i32 = 0;
-
-const STDOUT: i32 = 1;
 
 const ROOM: usize = 131072;
 
@@ -22,71 +19,80 @@ const FEW_WIRES: usize = 12;
 
 const HEAD: usize = 5;
 
-fn main() {
+fn main(rt: HostRuntime) -> io::Result<()> {
     let mut cases = [0u8; ROOM];
-    let end = io::read_full(STDIN, &mut cases);
-    each(&cases[0..end]);
+    let end = read_cases(&mut rt.stdin(), &mut cases)?;
+    each(&rt, &cases[0..end])
 }
 
 // One case after the other.
-fn each(cases: &[u8]) {
+fn each(rt: &impl Print, cases: &[u8]) -> io::Result<()> {
     let mut at = 0;
     let mut end = case_end(cases, 0, HEAD);
     while HEAD <= end - at {
         let shares = wide(cases[at]);
         let masks = wide(cases[at + 1]);
-        tell(&cases[at + HEAD..end], shares, masks, wide(cases[at + 2]));
+        tell(
+            rt,
+            &cases[at + HEAD..end],
+            shares,
+            masks,
+            wide(cases[at + 2]),
+        )?;
         at = end;
         end = case_end(cases, at, HEAD);
     }
+    Ok(())
 }
 
-fn say(words: &[u8]) {
-    io::write_all(STDOUT, words);
-}
-
-fn number(n: usize) {
-    io::print_decimal(STDOUT, n as u64);
-    say(b" ");
+fn number(rt: &impl Print, n: usize) -> io::Result<()> {
+    print!(rt; "{n} ")
 }
 
 // The arguments, and the two answers.
-fn tell(table: &[u8], shares: usize, masks: usize, function: usize) {
-    number(shares);
-    number(masks);
-    number(table.len());
-    number(function);
+fn tell(
+    rt: &impl Print,
+    table: &[u8],
+    shares: usize,
+    masks: usize,
+    function: usize,
+) -> io::Result<()> {
+    number(rt, shares)?;
+    number(rt, masks)?;
+    number(rt, table.len())?;
+    number(rt, function)?;
     let tested = table::table_check(table, shares, masks);
     let mut sound = true;
     match tested {
-        TableAnswer::Accepted => say(b"accepted"),
+        TableAnswer::Accepted => rt.print("accepted")?,
         TableAnswer::Refused(why) => {
             sound = false;
-            refused(why);
+            refused(rt, why)?;
         }
     }
-    say(b" ");
+    rt.print(" ")?;
     let answer = table::function_check(table, shares, masks, function);
     match answer {
-        FunctionAnswer::Yes => say(b"yes"),
-        FunctionAnswer::No => say(b"no"),
-        FunctionAnswer::Refused(why) => refused(why),
+        FunctionAnswer::Yes => rt.print("yes")?,
+        FunctionAnswer::No => rt.print("no")?,
+        FunctionAnswer::Refused(why) => refused(rt, why)?,
     }
     if sound {
-        breaking(table);
+        breaking(rt, table)?;
     }
-    say(b"\n");
+    rt.print("\n")
 }
 
 // How many sets of one, two and three wires break NI, and how many SNI, out of a table of a few wires.
-fn breaking(table: &[u8]) {
+fn breaking(rt: &impl Print, table: &[u8]) -> io::Result<()> {
     let wires = table.len() / RECORD_BYTES;
     if FEW_WIRES < wires {
-        return;
+        return Ok(());
     }
-    say(b" breaking ");
-    number(sets_of_three(table, Notion::Ni, wires));
-    io::print_decimal(STDOUT, sets_of_three(table, Notion::Sni, wires) as u64);
+    rt.print(" breaking ")?;
+    number(rt, sets_of_three(table, Notion::Ni, wires))?;
+    let sni = sets_of_three(table, Notion::Sni, wires);
+    print!(rt; "{sni}")
 }
 
 fn sets_of_three(table: &[u8], notion: Notion, wires: usize) -> usize
@@ -138,7 +144,7 @@ fn more(count: usize, breaks: bool) -> usize {
     count
 }
 
-fn refused(why: Refusal) {
-    say(b"refused ");
-    io::print_decimal(STDOUT, why.number());
+fn refused(rt: &impl Print, why: Refusal) -> io::Result<()> {
+    let number = why.number();
+    print!(rt; "refused {number}")
 }
