@@ -22,7 +22,7 @@ use Rattle.revolving.proofs.Rising.{is_set-parts}
 use Rattle.revolving.proofs.Revolving.{set_at-is-set, rank_of-set}
 use Rattle.verdict_answers.specs.declared.RangeAnswer.{RangeAnswer}
 use Rattle.breaking.specs.Breaking.{is_breaking}
-use Rattle.search.specs.Search.{stretch, first, FirstRank}
+use Rattle.search.specs.Search.{stretch, FirstRank}
 use Rattle.verdict_answers.specs.Answers.{range_told, notion_of, written, first_ranked, range_check}
 use Rattle.verdict_answers.proofs.Conditions.{range_answered}
 use Rattle.search.proofs.Ranges.{rank-first}
