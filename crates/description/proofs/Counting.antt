@@ -10,7 +10,7 @@ use mathlib.Core.List.{List, [], ◌∷◌, ◌++◌, map}
 use borrow.Author.Tests.{not-true, ne_eqb}
 use lib.Dec.{eqb}
 use lib.ListN.{length, length-append}
-use Rattle.basics.specs.Folds.{fold, some, every, count, one_if}
+use Rattle.basics.specs.Folds.{fold, every, count, one_if}
 use Rattle.basics.proofs.Tests.{and_left, and_right}
 use Rattle.basics.proofs.Folds.{fold-append}
 use Rattle.wires.specs.declared.Symbol.{Symbol}

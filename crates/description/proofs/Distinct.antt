@@ -3,7 +3,7 @@
 --     distinct seen l         how many distinct symbols of l are not among those seen
 --     distinct_append         of a list in two parts, the second after the first
 --     distinct-all            all of l are so many as there are names for them, each used once, all used
-use Prim.Native.Nat.{ℕ, ◌+◌, ◌-◌}
+use Prim.Native.Nat.{ℕ, ◌+◌}
 use native.Mathlib.Omega.{arith}
 use mathlib.Core.Path.{◌≡◌, refl, sym, ◌∙◌, ap, ap₂}
 use mathlib.Core.Bool.{Bool, true, false, cond, ◌||◌, or_assoc, or_comm}

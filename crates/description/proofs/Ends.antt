@@ -16,7 +16,6 @@ use lib.ListN.{length, get_or}
 use Rattle.basics.specs.Folds.{one_if}
 use Rattle.description.specs.Bytes.{line_end}
 use Rattle.description.specs.Run.{State, Around, Outcome, done, refused, go, finish, line_step, line_done, run_at, max_depth}
-use Rattle.description.specs.Grammar.{group}
 use Rattle.description.specs.declared.Refusal.{Refusal}
 use Rattle.description.specs.declared.Refusal.TheVariants.{WrongLineCount}
 use Rattle.description.proofs.Running.{run_end}

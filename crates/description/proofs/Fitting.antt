@@ -24,7 +24,7 @@ use Rattle.record_words.proofs.Encoding as Encoding
 use Rattle.description.specs.Symbols.{max_mask, symbol_length}
 use Rattle.description.specs.Listing.{symbol_wire, made_outer, outer_wire}
 use Rattle.description.specs.Run.{max_text}
-use Rattle.description.specs.Grammar.{Items, symbol, Description, Spelled, end, spaced, a_symbol, a_group, empty, counted, Lines, last, line}
+use Rattle.description.specs.Grammar.{Items, Description, Spelled, end, spaced, a_symbol, a_group, empty, counted, Lines, last, line}
 use Rattle.description.specs.Grammar.{Spells, Limits, uses, symbols, Event, used, addition, worked, further, sum_of, same_symbol, event_wires}
 use Rattle.description.specs.Grammar.{last_outer, outered, line_wires, lines_wires, wires_of, mask_count, known}
 use Rattle.wires.specs.declared.Symbol.{Symbol}

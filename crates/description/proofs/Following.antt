@@ -14,7 +14,7 @@ use lib.ListN.{length, drop, get_or}
 use Rattle.limits.specs.Limits.{max_shares}
 use Rattle.basics.specs.Folds.{every}
 use Rattle.basics.proofs.Tests.{and_left, and_right}
-use Rattle.description.specs.Bytes.{space, opening, closing, parts, word}
+use Rattle.description.specs.Bytes.{space, opening, closing, word}
 use Rattle.description.specs.Symbols.{spelling, formed, symbol_length, symbol_read}
 use Rattle.description.specs.Run.{State, run_at, max_depth, placed, took, opened, closed}
 use Rattle.description.specs.Grammar.{Items, Bytes, empty, Spelled, end, spaced, a_symbol, a_group, depth, symbols, known}

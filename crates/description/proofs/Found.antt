@@ -14,7 +14,7 @@ use Rattle.limits.specs.Limits.{max_shares}
 use Rattle.description.specs.Bytes.{space, opening, closing, parts, word}
 use Rattle.description.specs.Symbols.{spelling, symbol_length, symbol_read}
 use Rattle.description.specs.Run.{State, Around, done, run_at, max_depth, start, placed, took, opened, closed, symbol_item, group_item}
-use Rattle.description.specs.Grammar.{group, Bytes, empty}
+use Rattle.description.specs.Grammar.{Bytes, empty}
 use Rattle.description.specs.declared.SymbolAnswer.{SymbolAnswer}
 use Rattle.description.proofs.Spelling.{Declares, read_known, known-formed, spelling-length}
 use Rattle.description.proofs.Places.{at_byte, rest-bytes, word-rest, word_after}

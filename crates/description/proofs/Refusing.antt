@@ -1,6 +1,6 @@
 -- Runs of bytes that are refused as a mask that is not declared.
 --     undeclared_exactly     a run of bytes is refused so exactly when it is the name of one
-use Prim.Native.Nat.{ℕ, ◌-◌, ◌≤◌}
+use Prim.Native.Nat.{ℕ, ◌≤◌}
 use native.Mathlib.Omega.{arith}
 use mathlib.Core.Path.{◌≡◌, refl, sym, ◌∙◌, ap}
 use mathlib.Core.Bool.{Bool, true, false, cond, ◌&&◌}

@@ -1,7 +1,7 @@
 -- The run lists the wires of the events of the items that it reads.
 --     Follows           from one state to another the run has listed the wires of events, and kept what it has seen, added and used last
 --     worked_follows    the items of a group, from its start on, and their sum
-use Prim.Native.Nat.{ℕ, ◌+◌, ◌-◌, ◌≤◌}
+use Prim.Native.Nat.{ℕ, ◌-◌, ◌≤◌}
 use mathlib.Core.Path.{◌≡◌, refl, sym, ◌∙◌, ap, ap₂}
 use mathlib.Core.Bool.{Bool, true, false, cond, ◌||◌, true≢false, false≢true, or_assoc, or-false}
 use mathlib.Core.List.{List, [], ◌∷◌, ◌++◌, append-nil, append_assoc, reverse_aux, reverse_aux-append}

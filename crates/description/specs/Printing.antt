@@ -3,7 +3,7 @@
 --     following                the bytes of items, a space before each
 --     printed, printed_line     the bytes of items, one space between two; those of an output line, with its line end
 --     text_of                   the text of a description: the header lines, then the output lines
-use Rattle.std.specs.Prelude.{ℕ, ◌+◌, List, [], ◌∷◌, ◌++◌, drop}
+use Rattle.std.specs.Prelude.{ℕ, List, [], ◌∷◌, ◌++◌, drop}
 use Rattle.basics.specs.Folds.{fold}
 use Rattle.wires.specs.declared.Symbol.{Symbol}
 use Rattle.description.specs.Bytes.{space, line_end, opening, closing}
