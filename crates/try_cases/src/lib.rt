@@ -8,15 +8,15 @@ use std::io;
 use std::io::{ErrorKind, Read};
 
 // Reads until the buffer is full or the input ends, and gives how many bytes there are.
-pub fn read_cases(reader: &mut impl Read, cases: &mut [u8]) -> io::Result<usize>
-    ensures { IfOk result (λ end. end ≤ length cases.new) }
+pub fn read_full(reader: &mut impl Read, buffer: &mut [u8]) -> io::Result<usize>
+    ensures { IfOk result (λ end. end ≤ length buffer.new) }
 {
     let mut end = 0;
     for _ in 0..u64::MAX {
-        if end == cases.len() {
+        if end == buffer.len() {
             break;
         }
-        match reader.read(&mut cases[end..]) {
+        match reader.read(&mut buffer[end..]) {
             Ok(0) => break,
             Ok(more) => end += more,
             Err(error) => {

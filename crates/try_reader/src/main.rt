@@ -8,11 +8,8 @@ ghost use Rattle.std.specs.Prelude.{◌≡◌, ◌<◌, ◌≤◌, length};
 
 use limits::RECORD_BYTES;
 use reader::{PartAnswer, ReadAnswer};
-use try_cases::{case_end, wide};
-
-const STDIN: i32 = 0;
-
-const STDOUT: i32 = 1;
+use std::io;
+use try_cases::{case_end, read_full, wide};
 
 const INPUT_BYTES: usize = 524288;
 
@@ -35,30 +32,31 @@ const PRIME: u64 = 4294967291;
 
 const FACTOR: u64 = 2654435761;
 
-fn main() {
+fn main(rt: HostRuntime) -> io::Result<()> {
     let mut cases = [0u8; INPUT_BYTES];
-    let end = io::read_full(STDIN, &mut cases);
-    each(&cases[0..end]);
+    let end = read_full(&mut rt.stdin(), &mut cases)?;
+    each(&rt, &cases[0..end])
 }
 
 // One case after the other.
-fn each(cases: &[u8]) {
+fn each(rt: &impl Print, cases: &[u8]) -> io::Result<()> {
     let mut at = 0;
     let mut end = case_end(cases, 0, HEAD);
     while HEAD <= end - at {
         let lent = pair(cases[at + 1], cases[at + 2]);
         let size = pair(cases[at + 3], cases[at + 4]);
-        tell(cases[at], lent, size, &cases[at + HEAD..end]);
+        tell(rt, cases[at], lent, size, &cases[at + HEAD..end])?;
         at = end;
         end = case_end(cases, at, HEAD);
     }
+    Ok(())
 }
 
-fn tell(kind: u8, lent: usize, size: usize, rest: &[u8]) {
+fn tell(rt: &impl Print, kind: u8, lent: usize, size: usize, rest: &[u8]) -> io::Result<()> {
     if kind == 0 {
-        tell_reading(rest, size, lent);
+        tell_reading(rt, rest, size, lent)
     } else {
-        tell_part(rest, size);
+        tell_part(rt, rest, size)
     }
 }
 
@@ -87,26 +85,20 @@ fn least(m: usize, n: usize) -> usize
     n
 }
 
-fn say(words: &[u8]) {
-    io::write_all(STDOUT, words);
-}
-
 // Words, a space and a number.
-fn number(words: &[u8], n: usize) {
-    say(words);
-    say(b" ");
-    io::print_decimal(STDOUT, n as u64);
+fn number(rt: &impl Print, words: &str, n: usize) -> io::Result<()> {
+    print!(rt; "{words} {n}")
 }
 
 // A reading of a text, spaces put after its start up to its size.
-fn tell_reading(start: &[u8], size: usize, lent: usize) {
+fn tell_reading(rt: &impl Print, start: &[u8], size: usize, lent: usize) -> io::Result<()> {
     let mut text = [b' '; TEXT_ROOM];
     let mut table = [0u8; TABLE_ROOM];
     copy(start, &mut text);
     pattern(&mut table);
     let text_end = least(size, TEXT_ROOM);
     let table_end = least(lent, TABLE_ROOM);
-    ask_reading(&text[0..text_end], &mut table[0..table_end]);
+    ask_reading(rt, &text[0..text_end], &mut table[0..table_end])
 }
 
 fn copy(from: &[u8], to: &mut [u8]) {
@@ -120,12 +112,12 @@ fn pattern(table: &mut [u8]) {
     let mut byte = PATTERN_START;
     for i in 0..table.len() {
         table[i] = byte;
-        byte = std::num::wrapping_add_u8(byte, PATTERN_STEP);
+        byte = byte.wrapping_add(PATTERN_STEP);
     }
 }
 
 // The answer, and the checksum of the whole lent table.
-fn ask_reading(text: &[u8], table: &mut [u8]) {
+fn ask_reading(rt: &impl Print, text: &[u8], table: &mut [u8]) -> io::Result<()> {
     let answer = reader::read_text(text, table);
     match answer {
         ReadAnswer::Read {
@@ -134,36 +126,33 @@ fn ask_reading(text: &[u8], table: &mut [u8]) {
             masks,
             wires,
         } => {
-            number(b"order", order);
-            number(b" shares", shares);
-            number(b" masks", masks);
-            number(b" wires", wires);
+            number(rt, "order", order)?;
+            number(rt, " shares", shares)?;
+            number(rt, " masks", masks)?;
+            number(rt, " wires", wires)?;
             let records = least(wires, table.len() / RECORD_BYTES);
-            parts(text, &table[0..RECORD_BYTES * records], wires);
+            parts(rt, text, &table[0..RECORD_BYTES * records], wires)?;
         }
         ReadAnswer::Refused { why, offset } => {
-            refused(why.number());
-            number(b" at", offset);
+            refused(rt, why.number())?;
+            number(rt, " at", offset)?;
         }
     }
-    say(b" table ");
-    io::print_decimal(STDOUT, checksum(0, table));
-    say(b"\n");
+    let sum = checksum(0, table);
+    println!(rt; " table {sum}")
 }
 
 // The checksum of the parts of a table's wires, one after the other.
-fn parts(text: &[u8], table: &[u8], wires: usize) {
+fn parts(rt: &impl Print, text: &[u8], table: &[u8], wires: usize) -> io::Result<()> {
     let mut total = 0;
     for wire in 0..wires {
         total = checksum(total, reader::text_part(text, table, wire));
     }
-    say(b" parts ");
-    io::print_decimal(STDOUT, total);
+    print!(rt; " parts {total}")
 }
 
-fn refused(why: u64) {
-    say(b"refused ");
-    io::print_decimal(STDOUT, why);
+fn refused(rt: &impl Print, why: u64) -> io::Result<()> {
+    print!(rt; "refused {why}")
 }
 
 // A polynomial of the bytes, modulo a prime, that goes on from a total.
@@ -186,28 +175,32 @@ fn with_byte(total: u64, byte: u8) -> u64
 }
 
 // The part of the text that a wire's record names.
-fn tell_part(rest: &[u8], size: usize) {
+fn tell_part(rt: &impl Print, rest: &[u8], size: usize) -> io::Result<()> {
     if rest.len() < WIRE_BYTES {
-        return;
+        return Ok(());
     }
     let table_start = WIRE_BYTES + least(size, rest.len() - WIRE_BYTES);
     let wire = eight(&rest[0..WIRE_BYTES]);
-    ask_part(&rest[WIRE_BYTES..table_start], &rest[table_start..], wire);
+    ask_part(
+        rt,
+        &rest[WIRE_BYTES..table_start],
+        &rest[table_start..],
+        wire,
+    )
 }
 
 // The check's answer, and the length and the checksum of the part itself.
-fn ask_part(text: &[u8], table: &[u8], wire: usize) {
+fn ask_part(rt: &impl Print, text: &[u8], table: &[u8], wire: usize) -> io::Result<()> {
     let answer = reader::text_part_check(text, table, wire);
     match answer {
         PartAnswer::Part { offset, length } => {
-            number(b"part at", offset);
-            number(b" length", length);
+            number(rt, "part at", offset)?;
+            number(rt, " length", length)?;
         }
-        PartAnswer::Refused(why) => refused(why.number()),
+        PartAnswer::Refused(why) => refused(rt, why.number())?,
     }
     let part = reader::text_part(text, table, wire);
-    number(b" bytes", part.len());
-    say(b" sum ");
-    io::print_decimal(STDOUT, checksum(0, part));
-    say(b"\n");
+    number(rt, " bytes", part.len())?;
+    let sum = checksum(0, part);
+    println!(rt; " sum {sum}")
 }

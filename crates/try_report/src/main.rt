@@ -4,52 +4,52 @@
 
 ghost use Rattle.std.specs.Prelude.{◌≤◌};
 
-use bytes::scan::find;
 use console::input::INPUT_BYTES;
+use console::lines;
 use report_text::{MAX_REPORT, ReportAnswer};
-
-const STDOUT: i32 = 1;
+use std::fs::File;
+use std::io;
+use std::rt::Files;
+use try_cases::read_full;
 
 const INDEX_BYTES: usize = 16384;
 
-fn main() {
+fn main(rt: HostRuntime) -> io::Result<()> {
     let mut index = [0u8; INDEX_BYTES];
-    let fd = os::open_read(b"index");
-    if fd < 0 {
-        say(b"no index\n");
-        return;
+    match File::open(&rt, "index") {
+        Ok(mut file) => {
+            let end = read_full(&mut file, &mut index)?;
+            each(&rt, &index[0..end])
+        }
+        Err(_) => rt.print("no index\n"),
     }
-    let end = io::read_full(fd, &mut index);
-    libc::close(fd);
-    each(&index[0..end]);
 }
 
 // One line after the other.
-fn each(index: &[u8]) {
+fn each(rt: &(impl Files + Print), index: &[u8]) -> io::Result<()> {
     let mut at = 0;
     while at < index.len() {
-        let end = find(index, at, index.len(), b'\n');
-        tell(&index[at..end]);
+        let end = lines::end(index, at);
+        tell(rt, &index[at..end])?;
         at = end + 1;
     }
+    Ok(())
 }
 
-fn tell(name: &[u8]) {
-    say(name);
-    say(b"\n");
-    let fd = os::open_read(name);
-    if fd < 0 {
-        say(b"missing\n");
-        return;
+fn tell(rt: &(impl Files + Print), name: &[u8]) -> io::Result<()> {
+    rt.write_all(name)?;
+    rt.print("\n")?;
+    let Ok(path) = std::str::from_utf8(name) else {
+        return rt.print("missing\n");
+    };
+    match File::open(rt, path) {
+        Ok(mut file) => {
+            let mut text = [0u8; INPUT_BYTES];
+            let end = read_full(&mut file, &mut text)?;
+            tell_report(rt, &text[0..end])
+        }
+        Err(_) => rt.print("missing\n"),
     }
-    let mut text = [0u8; INPUT_BYTES];
-    let end = io::read_full(fd, &mut text);
-    libc::close(fd);
-    tell_report(&text[0..end]);
-}
-
-fn say(words: &[u8]) {
-    io::write_all(STDOUT, words);
 }
 
 fn least(m: usize, n: usize) -> usize
@@ -62,14 +62,14 @@ fn least(m: usize, n: usize) -> usize
 }
 
 // The whole report.
-fn tell_report(text: &[u8]) {
+fn tell_report(rt: &impl Print, text: &[u8]) -> io::Result<()> {
     let mut page = [0u8; MAX_REPORT];
     let answer = report_text::report(text, &mut page);
     match answer {
         ReportAnswer::Written { length } => {
             let end = least(length, MAX_REPORT);
-            say(&page[0..end]);
+            rt.write_all(&page[0..end])
         }
-        ReportAnswer::Refused(why) => say(b"the page is too short\n"),
+        ReportAnswer::Refused(why) => rt.print("the page is too short\n"),
     }
 }

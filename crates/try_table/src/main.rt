@@ -9,7 +9,7 @@ ghost use Rattle.records.specs.Layout.{wire_count};
 use limits::RECORD_BYTES;
 use std::io;
 use table::{FunctionAnswer, Refusal, TableAnswer};
-use try_cases::{case_end, read_cases, wide};
+use try_cases::{case_end, read_full, wide};
 use wires::Notion;
 
 const ROOM: usize = 131072;
@@ -21,7 +21,7 @@ const HEAD: usize = 5;
 
 fn main(rt: HostRuntime) -> io::Result<()> {
     let mut cases = [0u8; ROOM];
-    let end = read_cases(&mut rt.stdin(), &mut cases)?;
+    let end = read_full(&mut rt.stdin(), &mut cases)?;
     each(&rt, &cases[0..end])
 }
 

@@ -9,14 +9,11 @@ ghost use Rattle.std.specs.Prelude.{◌≤◌, ◌<◌, length};
 use division::JobAnswer;
 use limits::RECORD_BYTES;
 use sets::CountAnswer;
-use try_cases::{case_end, wide};
+use std::io;
+use try_cases::{case_end, read_full, wide};
 use verdict_answers::{RangeAnswer, Refusal, VerdictAnswer};
 
 mod edges;
-
-const STDIN: i32 = 0;
-
-const STDOUT: i32 = 1;
 
 const INPUT_BYTES: usize = 65536;
 
@@ -33,77 +30,110 @@ pub const SNI: usize = 2;
 
 const JOBS: u64 = 3;
 
-fn main() {
+fn main(rt: HostRuntime) -> io::Result<()> {
     let mut cases = [0u8; INPUT_BYTES];
-    let end = io::read_full(STDIN, &mut cases);
-    each(&cases[0..end]);
-    edges::all();
+    let end = read_full(&mut rt.stdin(), &mut cases)?;
+    each(&rt, &cases[0..end])?;
+    edges::all(&rt)
 }
 
 // One case after the other.
-fn each(cases: &[u8]) {
+fn each(rt: &impl Print, cases: &[u8]) -> io::Result<()> {
     let mut at = 0;
     let mut end = case_end(cases, 0, HEAD);
     while HEAD <= end - at {
-        tell(&cases[at + HEAD..end], wide(cases[at]), wide(cases[at + 1]));
+        tell(
+            rt,
+            &cases[at + HEAD..end],
+            wide(cases[at]),
+            wide(cases[at + 1]),
+        )?;
         at = end;
         end = case_end(cases, at, HEAD);
     }
-}
-
-fn say(words: &[u8]) {
-    io::write_all(STDOUT, words);
+    Ok(())
 }
 
 // A space and a number.
-fn number(n: u64) {
-    say(b" ");
-    io::print_decimal(STDOUT, n);
+fn number(rt: &impl Print, n: u64) -> io::Result<()> {
+    print!(rt; " {n}")
 }
 
-fn size_number(n: usize) {
-    number(n as u64);
+fn size_number(rt: &impl Print, n: usize) -> io::Result<()> {
+    number(rt, n as u64)
 }
 
 // The table that the next lines speak of: its shares, its masks, its length.
-pub fn title(table: &[u8], shares: usize, masks: usize) {
-    say(b"table");
-    size_number(shares);
-    size_number(masks);
-    size_number(table.len());
-    say(b"\n");
+pub fn title(rt: &impl Print, table: &[u8], shares: usize, masks: usize) -> io::Result<()> {
+    rt.print("table")?;
+    size_number(rt, shares)?;
+    size_number(rt, masks)?;
+    size_number(rt, table.len())?;
+    rt.print("\n")
 }
 
 // Verdicts at every order, and range checks, under both notions.
-fn tell(table: &[u8], shares: usize, masks: usize) {
-    title(table, shares, masks);
-    verdicts(table, shares, masks, NI);
-    verdicts(table, shares, masks, SNI);
-    ranges(table, shares, masks, NI);
-    ranges(table, shares, masks, SNI);
+fn tell(rt: &impl Print, table: &[u8], shares: usize, masks: usize) -> io::Result<()> {
+    title(rt, table, shares, masks)?;
+    verdicts(rt, table, shares, masks, NI)?;
+    verdicts(rt, table, shares, masks, SNI)?;
+    ranges(rt, table, shares, masks, NI)?;
+    ranges(rt, table, shares, masks, SNI)
 }
 
-fn verdicts(table: &[u8], shares: usize, masks: usize, notion: usize) {
+fn verdicts(
+    rt: &impl Print,
+    table: &[u8],
+    shares: usize,
+    masks: usize,
+    notion: usize,
+) -> io::Result<()> {
     for order in 1..shares {
-        tell_verdict(table, shares, masks, notion, order, ROOM);
+        tell_verdict(rt, table, shares, masks, notion, order, ROOM)?;
     }
+    Ok(())
 }
 
-fn ranges(table: &[u8], shares: usize, masks: usize, notion: usize) {
+fn ranges(
+    rt: &impl Print,
+    table: &[u8],
+    shares: usize,
+    masks: usize,
+    notion: usize,
+) -> io::Result<()> {
     for size in 0..4usize {
-        ranges_of(table, shares, masks, notion, size);
+        ranges_of(rt, table, shares, masks, notion, size)?;
     }
+    Ok(())
 }
 
 // All sets of a size; the same in jobs; those past the first find; and no set, just before the find.
-fn ranges_of(table: &[u8], shares: usize, masks: usize, notion: usize, size: usize) {
+fn ranges_of(
+    rt: &impl Print,
+    table: &[u8],
+    shares: usize,
+    masks: usize,
+    notion: usize,
+    size: usize,
+) -> io::Result<()> {
     let sets = sets_of(table, size);
-    let found = tell_range(table, shares, masks, notion, size, 0, sets, ROOM);
-    jobs(table, shares, masks, notion, size);
+    let found = tell_range(rt, table, shares, masks, notion, size, 0, sets, ROOM)?;
+    jobs(rt, table, shares, masks, notion, size)?;
     if found < sets {
-        tell_range(table, shares, masks, notion, size, found + 1, sets, ROOM);
+        tell_range(
+            rt,
+            table,
+            shares,
+            masks,
+            notion,
+            size,
+            found + 1,
+            sets,
+            ROOM,
+        )?;
     }
-    tell_range(table, shares, masks, notion, size, found, found, ROOM);
+    tell_range(rt, table, shares, masks, notion, size, found, found, ROOM)?;
+    Ok(())
 }
 
 fn sets_of(table: &[u8], size: usize) -> u64 {
@@ -113,44 +143,54 @@ fn sets_of(table: &[u8], size: usize) -> u64 {
     }
 }
 
-fn jobs(table: &[u8], shares: usize, masks: usize, notion: usize, size: usize) {
+fn jobs(
+    rt: &impl Print,
+    table: &[u8],
+    shares: usize,
+    masks: usize,
+    notion: usize,
+    size: usize,
+) -> io::Result<()> {
     for job in 0..JOBS {
         match division::job(table.len() / RECORD_BYTES, size, job, JOBS) {
             JobAnswer::Ranks { from, to } => {
-                tell_range(table, shares, masks, notion, size, from, to, ROOM);
+                tell_range(rt, table, shares, masks, notion, size, from, to, ROOM)?;
             }
-            JobAnswer::Refused(_) => say(b"no job\n"),
+            JobAnswer::Refused(_) => rt.print("no job\n")?,
         }
     }
+    Ok(())
 }
 
 // A verdict, and the directed verdict, each with a fresh buffer of which the first `room` numbers are lent.
 pub fn tell_verdict(
+    rt: &impl Print,
     table: &[u8],
     shares: usize,
     masks: usize,
     notion: usize,
     order: usize,
     room: usize,
-)
+) -> io::Result<()>
     requires { room ≤ 9 }
 {
-    asked(b"verdict", notion, order, room);
+    asked(rt, "verdict", notion, order, room)?;
     let mut buffer = [UNWRITTEN; ROOM];
-    ask_verdict(table, shares, masks, notion, order, room, &mut buffer);
-    asked(b"directed", notion, order, room);
+    ask_verdict(rt, table, shares, masks, notion, order, room, &mut buffer)?;
+    asked(rt, "directed", notion, order, room)?;
     let mut other = [UNWRITTEN; ROOM];
-    ask_directed(table, shares, masks, notion, order, room, &mut other);
+    ask_directed(rt, table, shares, masks, notion, order, room, &mut other)
 }
 
-fn asked(name: &[u8], notion: usize, order: usize, room: usize) {
-    say(name);
-    size_number(notion);
-    size_number(order);
-    size_number(room);
+fn asked(rt: &impl Print, name: &str, notion: usize, order: usize, room: usize) -> io::Result<()> {
+    rt.print(name)?;
+    size_number(rt, notion)?;
+    size_number(rt, order)?;
+    size_number(rt, room)
 }
 
 fn ask_verdict(
+    rt: &impl Print,
     table: &[u8],
     shares: usize,
     masks: usize,
@@ -158,15 +198,16 @@ fn ask_verdict(
     order: usize,
     room: usize,
     buffer: &mut [u16],
-)
+) -> io::Result<()>
     requires { room ≤ length buffer.old }
 {
     let answer = verdict::verdict(table, shares, masks, notion, order, &mut buffer[0..room]);
-    tell_answer(answer);
-    held(buffer);
+    tell_answer(rt, answer)?;
+    held(rt, buffer)
 }
 
 fn ask_directed(
+    rt: &impl Print,
     table: &[u8],
     shares: usize,
     masks: usize,
@@ -174,7 +215,7 @@ fn ask_directed(
     order: usize,
     room: usize,
     buffer: &mut [u16],
-)
+) -> io::Result<()>
     requires { room ≤ length buffer.old }
 {
     let answer = directed::directed_verdict(
@@ -185,23 +226,24 @@ fn ask_directed(
         order,
         &mut buffer[0..room],
     );
-    tell_answer(answer);
-    held(buffer);
+    tell_answer(rt, answer)?;
+    held(rt, buffer)
 }
 
-fn tell_answer(answer: VerdictAnswer) {
+fn tell_answer(rt: &impl Print, answer: VerdictAnswer) -> io::Result<()> {
     match answer {
-        VerdictAnswer::Holds => say(b": holds"),
+        VerdictAnswer::Holds => rt.print(": holds"),
         VerdictAnswer::Broken { size } => {
-            say(b": broken");
-            size_number(size);
+            rt.print(": broken")?;
+            size_number(rt, size)
         }
-        VerdictAnswer::Refused(why) => refused(why),
+        VerdictAnswer::Refused(why) => refused(rt, why),
     }
 }
 
 // The same for a range; gives the rank that was found, or the end of the range.
 pub fn tell_range(
+    rt: &impl Print,
     table: &[u8],
     shares: usize,
     masks: usize,
@@ -210,17 +252,18 @@ pub fn tell_range(
     from: u64,
     to: u64,
     room: usize,
-) -> u64
+) -> io::Result<u64>
     requires { room ≤ 9 }
 {
-    say(b"range");
-    size_number(notion);
-    size_number(size);
-    number(from);
-    number(to);
-    size_number(room);
+    rt.print("range")?;
+    size_number(rt, notion)?;
+    size_number(rt, size)?;
+    number(rt, from)?;
+    number(rt, to)?;
+    size_number(rt, room)?;
     let mut buffer = [UNWRITTEN; ROOM];
     ask_range(
+        rt,
         table,
         shares,
         masks,
@@ -234,6 +277,7 @@ pub fn tell_range(
 }
 
 fn ask_range(
+    rt: &impl Print,
     table: &[u8],
     shares: usize,
     masks: usize,
@@ -243,7 +287,7 @@ fn ask_range(
     to: u64,
     room: usize,
     buffer: &mut [u16],
-) -> u64
+) -> io::Result<u64>
     requires { room ≤ length buffer.old }
 {
     let answer = verdict::range_check(
@@ -258,38 +302,37 @@ fn ask_range(
     );
     let mut at = to;
     match answer {
-        RangeAnswer::Clean => say(b": clean"),
+        RangeAnswer::Clean => rt.print(": clean")?,
         RangeAnswer::Found { size, rank } => {
-            say(b": found");
-            size_number(size);
-            number(rank);
+            rt.print(": found")?;
+            size_number(rt, size)?;
+            number(rt, rank)?;
             at = rank;
         }
-        RangeAnswer::Refused(why) => refused(why),
+        RangeAnswer::Refused(why) => refused(rt, why)?,
     }
-    held(buffer);
-    at
+    held(rt, buffer)?;
+    Ok(at)
 }
 
-fn refused(why: Refusal) {
-    say(b": refused");
-    number(why.number());
+fn refused(rt: &impl Print, why: Refusal) -> io::Result<()> {
+    rt.print(": refused")?;
+    number(rt, why.number())
 }
 
 // What a buffer holds.
-fn held(buffer: &[u16]) {
-    say(b" | ");
+fn held(rt: &impl Print, buffer: &[u16]) -> io::Result<()> {
+    rt.print(" | ")?;
     for i in 0..buffer.len() {
-        held_number(buffer[i]);
+        held_number(rt, buffer[i])?;
     }
-    say(b"\n");
+    rt.print("\n")
 }
 
-fn held_number(x: u16) {
+fn held_number(rt: &impl Print, x: u16) -> io::Result<()> {
     if x == UNWRITTEN {
-        say(b"-");
+        rt.print("-")
     } else {
-        io::print_decimal(STDOUT, x as u64);
-        say(b" ");
+        print!(rt; "{x} ")
     }
 }
