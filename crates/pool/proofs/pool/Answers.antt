@@ -1,4 +1,5 @@
 -- `pool::pool` meets its contract: each refusal where its test is the first to fail, then what was found first, what is covered, and holds.
+use native.Mathlib.Omega.{arith}
 use mathlib.Core.Path.{sym, ◌∙◌, ap}
 use Rattle.opening.specs.Opening.{opened_told}
 use Rattle.pool.proofs.Pooling.{promised, before, order-low, order-high, bytes, wires-few, order_small, list_odd, list_wrong, none-misfiled, findable, find_false, found_first, first_missing, none_missing}
@@ -38,7 +39,7 @@ returns-then-found-ne0 c =
 
 pub first_uncovered-missing-requires : goal.first_uncovered-missing-requires
 first_uncovered-missing-requires c =
-    let a = c.args in record { counts = c.table-counts.ensures; wires_le_max_wires = (wires-few a.table.now a.shares a.masks a.notion a.order a.reports.now c.in-For.kind (record { told = ap opened_told (sym c.in-For.is) ∙ c.opening-opened.ensures; low = c.if-order-lt1.false; high = c.if-shares-order.false }), order_small a.table.now a.shares a.masks a.notion a.order a.reports.now c.in-For.kind (record { told = ap opened_told (sym c.in-For.is) ∙ c.opening-opened.ensures; low = c.if-order-lt1.false; high = c.if-shares-order.false })) }
+    let a = c.args in record { counts = c.table-counts.ensures; wires_le_max_wires = (wires-few a.table.now a.shares a.masks a.notion a.order a.reports.now c.in-For.kind (record { told = ap opened_told (sym c.in-For.is) ∙ c.opening-opened.ensures; low = c.if-order-lt1.false; high = c.if-shares-order.false }), omega (arith, order_small a.table.now a.shares a.masks a.notion a.order a.reports.now c.in-For.kind (record { told = ap opened_told (sym c.in-For.is) ∙ c.opening-opened.ensures; low = c.if-order-lt1.false; high = c.if-shares-order.false }))) }
 
 pub returns-then-missing-ne0 : goal.returns-then-missing-ne0
 returns-then-missing-ne0 c =
