@@ -100,13 +100,13 @@ show_progress() {
     done
 }
 
-# `rt run` goes by the sources, and by what it linked last: what something else has put in the program's place it does not
-# run, but links the program anew. A program that it linked it runs, whatever that comes to: here on nothing.
+# `rt run` goes by the sources, and by what it linked last: what something else has put in the program's place it does
+# not run, but links the program anew. What it has linked it runs, whatever that comes to: here on nothing.
 link_program() {
     (cd "crates/$name" && rt run < /dev/null 2>&1 > /dev/null) || :
 }
 
-# `rt` says that it runs the program where it has linked it, or finds nothing changed since it did, and in no other case.
+# `rt` says that it runs the program where it has linked it, or finds nothing changed since, and in no other case.
 is_linked() {
     sed -n "/^linked /{n;p;};/^rt: nothing has changed since the last proved build/{n;p;}" "$1" |
         grep -q "^rt: running out/$name; "
