@@ -1,14 +1,12 @@
 -- `reader::copy` meets its contract: before each turn the first bytes are copied, and the rest of the table is as it was.
--- Assumes nothing.
-use Prim.Native.Nat.{ℕ, suc, ◌+◌, ◌-◌, ◌≤◌, ◌<◌}
+use Prim.Native.Nat.{ℕ, suc, ◌+◌, ◌<◌}
 use native.Mathlib.Omega.{arith}
 use mathlib.Core.Path.{◌≡◌, refl, sym, ◌∙◌, ap}
 use mathlib.Core.List.{List, [], ◌∷◌, ◌++◌}
 use lib.ListN.{length, get_or, set, take, drop}
 use lib.Seq.{take-suc, drop-cons, append_snoc, set_at, length-take-le}
 use borrow.Author.Rules.{rules}
-use Rattle.reader.proofs.copy.Statement.{statement}
-use Rattle.reader.proofs.copy.Tie as tie
+use Rattle.reader.proofs.copy.Goals as goal
 
 -- the first i bytes are copied
 abbrev copied : List ℕ → List ℕ → ℕ → List ℕ
@@ -29,54 +27,18 @@ copied_more table from held i p q e =
     ∙ ap (λ (l : List ℕ). l ++ drop (suc i) table) (sym (take-suc from i 0 q))
     ∙ ap (copied table from) more
 
-abbrev invariant-loop : tie.invariant-loop
-invariant-loop table₀ from count i₀ table i = (length table ≡ length table₀) × (i ≤ count) × (table ≡ copied table₀ from i)
+pub loop-i-init : goal.loop-i-init
+loop-i-init c = (refl, search rules, copied_none c.args.table.now c.args.from.now)
 
-abbrev decreases-loop : tie.decreases-loop
-decreases-loop table₀ from count i₀ table i = count - i
-
-loop-holds : tie.Need-loop-init invariant-loop decreases-loop
-loop-holds c = (refl, search rules, copied_none c.args.table.now c.args.from.now)
-
-shared-slice-read-table : tie.Need-shared-slice-read-table invariant-loop decreases-loop
-shared-slice-read-table c = search rules
-
-slice-write-table : tie.Need-slice-write-table invariant-loop decreases-loop
-slice-write-table c = search rules
-
-add-i : tie.Need-overflow-add-i invariant-loop decreases-loop
-add-i c = search rules
-
-loop-less : tie.Need-loop-smaller invariant-loop decreases-loop
-loop-less c = search rules
-
-loop-again : tie.Need-loop-preserved invariant-loop decreases-loop
-loop-again c =
-    let a = c.before.before.before.args in
-    let l = c.before.before.loop in
+pub loop-i-preserved : goal.loop-i-preserved
+loop-i-preserved c =
+    let a = c.args in
+    let l = c.loop-i in
     (search rules, search rules, copied_more a.table.now a.from.now l.table l.i (search rules) (search rules) l.invariant.2)
 
-same_length : tie.Need-same-length invariant-loop decreases-loop
-same_length c = search rules
-
-returns : tie.Need-returns invariant-loop decreases-loop
+pub returns : goal.returns
 returns c =
-    let a = c.before.before.args in
-    let l = c.before.loop in
+    let a = c.args in
+    let l = c.loop-i in
     let all : l.i ≡ a.count = search rules in
     l.invariant.2 ∙ ap (copied a.table.now a.from.now) all
-
-pub copy_spec : {M : Type 1} → statement M
-copy_spec =
-    tie.close
-    (tie.spec
-    invariant-loop
-    decreases-loop
-    loop-holds
-    shared-slice-read-table
-    slice-write-table
-    add-i
-    loop-less
-    loop-again
-    same_length
-    returns)
