@@ -2,7 +2,7 @@
 """The must-fail edits, before the gate tries them: that takes it twenty minutes, and this a second.
 
 usage: tests/edits.py          says which edits can not be applied, as after a change of the code that they edit
-       tests/edits.py EDIT     applies one to the files of this checkout, for `rt dev`; git restores them
+       tests/edits.py EDIT     applies one to the files of this checkout, for `rt check`; git restores them
 
 An edit is applied as `rt` applies it: each text after `old: ` has to stand in its file once.
 """
