@@ -27,6 +27,6 @@ pub fn isw_text(order: usize, text: &mut [u8]) -> IswAnswer
     if text.len() < length {
         return IswAnswer::Refused(Refusal::TextDoesNotFit);
     }
-    bytes::copy(&page[0..length], text);
+    text[0..length].copy_from_slice(&page[0..length]);
     IswAnswer::Written { length }
 }
