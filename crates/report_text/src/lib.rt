@@ -42,6 +42,6 @@ pub fn report(text: &[u8], buffer: &mut [u8]) -> ReportAnswer
     if buffer.len() < length {
         return ReportAnswer::Refused(Refusal::BufferTooShort);
     }
-    bytes::copy(&page[0..length], buffer);
+    buffer[0..length].copy_from_slice(&page[0..length]);
     ReportAnswer::Written { length }
 }
