@@ -33,9 +33,16 @@ const PRIME: u64 = 4294967291;
 const FACTOR: u64 = 2654435761;
 
 fn main(rt: HostRuntime) -> io::Result<()> {
-    let mut cases = [0u8; INPUT_BYTES];
+    let mut cases = no_bytes();
     let end = read_full(&mut rt.stdin(), &mut cases)?;
     each(&rt, &cases[0..end])
+}
+
+// Room for the whole input. Of so long an array nothing but its length is to be looked at.
+fn no_bytes() -> [u8; INPUT_BYTES]
+    ensures { 524288 ≡ length result }
+{
+    [0; INPUT_BYTES]
 }
 
 // One case after the other.
