@@ -1,10 +1,10 @@
 // Which wires carry which mask: what a directed search looks up at each node. These functions ask what the entries have tested.
 #![tactic(auto)]
 
-ghost use Rattle.std.specs.Prelude.{◌≡◌, cond, suc, ◌≤◌, ◌<◌};
+ghost use Rattle.std.specs.Prelude.{◌≡◌, cond, suc, ◌≤◌, ◌<◌, replicate};
 ghost use Rattle.limits.specs.Limits.{max_masks, max_wires};
 ghost use Rattle.records.specs.Layout.{wire_count, terms_of};
-ghost use Rattle.carriers.specs.Carriers.{carries, highest_at, Carriers};
+ghost use Rattle.carriers.specs.Carriers.{carries, highest_at, carrier_count, Carriers};
 
 use limits::{MAX_MASKS, MAX_WIRES, RECORD_BYTES};
 use records::sums::{Sum, wire_record};
@@ -36,8 +36,18 @@ pub fn carriers(table: &[u8]) -> [u16; CARRIERS]
     requires { wire_count table.now ≤ max_wires }
     ensures { Carriers table.now result }
 {
-    let wires = table.len() / RECORD_BYTES;
     let mut highest = [0u16; CARRIERS];
+    fill(table, &mut highest);
+    highest
+}
+
+// The same, written where it is to stand: an array that is returned stands on the stack twice.
+pub fn fill(table: &[u8], highest: &mut [u16; CARRIERS])
+    requires wires { wire_count table.now ≤ max_wires }
+    requires empty { highest.old ≡ replicate carrier_count 0 }
+    ensures { Carriers table.now highest.new }
+{
+    let wires = table.len() / RECORD_BYTES;
     let mut place = 0;
     while place < MAX_MASKS * wires {
         highest[place + MAX_MASKS] = highest_with(
@@ -48,7 +58,6 @@ pub fn carriers(table: &[u8]) -> [u16; CARRIERS]
         );
         place += 1;
     }
-    highest
 }
 
 // A wire's number as an index.

@@ -14,7 +14,7 @@ ghost use Rattle.search.specs.Search.{searched, FirstSet};
 ghost use Rattle.directed_search.specs.Least.{LeastRank};
 
 use breaking::pay;
-use carriers::{CARRIERS, carriers};
+use carriers::{CARRIERS, fill};
 use choices::{CHOSEN, CLOSED, OPEN};
 use counts::count;
 use descent::descend;
@@ -76,7 +76,8 @@ pub fn first_set(table: &[u8], notion: Notion, order: usize, probes: &mut [u16])
     let wires = table.len() / RECORD_BYTES;
     let counts = counts::table();
     let ones = shares::ones::table();
-    let carriers = carriers(table);
+    let mut carriers = [0u16; CARRIERS];
+    fill(table, &mut carriers);
     let rarity = rarest_first(&carriers, wires);
     for size in 1..=order {
         let rank = least_rank(table, &counts, &ones, &carriers, &rarity, notion, size);

@@ -12,7 +12,7 @@ pub least_rank-rank-requires : goal.least_rank-rank-requires
 least_rank-rank-requires c =
     let p = c.requires in
     let i = c.loop-size.invariant in
-    let taken = c.loop-size-test.true in record { counts = (c.table-counts.ensures, c.table-ones.ensures, c.carriers-carriers.ensures); table_len_bound = (p.0, i.2, omega (arith, taken, p.1), none_below _ _ _ i.0) }
+    let taken = c.loop-size-test.true in record { counts = (c.table-counts.ensures, c.table-ones.ensures, c.fill.ensures); table_len_bound = (p.0, i.2, omega (arith, taken, p.1), none_below _ _ _ i.0) }
 
 pub returns-then-rank-count : goal.returns-then-rank-count
 returns-then-rank-count c =

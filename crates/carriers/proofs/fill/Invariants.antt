@@ -3,7 +3,7 @@ use mathlib.Core.Path.{◌≡◌}
 use lib.ListN.{length}
 use Rattle.limits.specs.Limits.{max_masks}
 use Rattle.carriers.proofs.Rows.{places, Rows}
-use Rattle.carriers.proofs.carriers.Given as goal
+use Rattle.carriers.proofs.fill.Given as goal
 
 abbrev pub invariant-loop-place : goal.invariant-loop-place
 invariant-loop-place l = (l.place ≤ max_masks * l.wires) × (length l.highest ≡ places) × Rows l.table l.highest l.place
