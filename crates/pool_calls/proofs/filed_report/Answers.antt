@@ -1,5 +1,4 @@
 -- `pool_calls::filed_report` meets its contract: what the entry tells, or 25.
-use borrow.Author.Rules.{rules}
 use Rattle.pool_calls.proofs.Calling.{filing_odd, filing_done, filing_refused}
 use Rattle.pool_calls.proofs.filed_report.Goals as goal
 

@@ -1,5 +1,4 @@
 -- `pool_calls::pool` meets its contract: each answer tells its number or its values, which mean what the answer means.
-use borrow.Author.Rules.{rules}
 use Rattle.pool_calls.proofs.Calling.{pool_holds, pool_broken, pool_uncovered, pool_refused}
 use Rattle.pool_calls.proofs.pool.Goals as goal
 
