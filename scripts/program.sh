@@ -53,25 +53,31 @@ is_current() {
     [ -x "$program" ] && [ -e "$proved" ] && [ -z "$(newer_than "$proved" | head -n 1)" ]
 }
 
-# usage: crates_below NAME
-# The crates of this project that the crate's line names, which are all that it rests on.
-crates_below() {
+# usage: named_by NAME
+# The crates of this project that the crate's line names. These rest on others, which it need not name.
+named_by() {
     for crate in $(sed -n "s/^$1: //p" crates.txt); do
         [ ! -d "crates/$crate" ] || printf '%s\n' "$crate"
     done
 }
 
-# usage: pass NAME..
-# Counts those crates in `done` that were not counted yet.
+# usage: pass NAME
+# Counts the crate and all that it rests on in `done`, but none that was counted.
 pass() {
-    for crate in "$@"; do
-        case " $passed " in
-        *" $crate "*) ;;
-        *)
-            passed="$passed $crate"
-            done=$((done + 1))
-            ;;
-        esac
+    left=$1
+    while [ -n "$left" ]; do
+        named=
+        for crate in $left; do
+            case " $passed " in
+            *" $crate "*) ;;
+            *)
+                passed="$passed $crate"
+                done=$((done + 1))
+                named="$named $(named_by "$crate")"
+                ;;
+            esac
+        done
+        left=$named
     done
 }
 
@@ -80,7 +86,7 @@ pass() {
 show_progress() {
     passed=
     done=0
-    pass "$name" $(crates_below "$name")
+    pass "$name"
     all=$done
     passed=
     done=0
@@ -93,7 +99,7 @@ show_progress() {
             proving=${proving%%:*}
             ;;
         'logic=proved '*)
-            pass "$proving" $(crates_below "$proving")
+            pass "$proving"
             say "$done of $all: $proving"
             ;;
         esac
