@@ -28,12 +28,7 @@ pub fn pay(table: &[u8], notion: Notion, wire: usize) -> usize
 {
     match notion {
         Notion::Ni => 1,
-        Notion::Sni => {
-            if is_outer(table, wire) {
-                return 0;
-            }
-            1
-        }
+        Notion::Sni => usize::from(!is_outer(table, wire)),
     }
 }
 
@@ -43,10 +38,8 @@ pub fn payers(table: &[u8], notion: Notion, set: &[u16]) -> usize
     ensures { result ≡ allowed notion (map (wire_at table.now) set.now) }
 {
     let mut count = 0;
-    let mut i = 0;
-    while i < set.len() {
-        count += pay(table, notion, set[i] as usize);
-        i += 1;
+    for wire in set {
+        count += pay(table, notion, usize::from(*wire));
     }
     count
 }

@@ -1,5 +1,5 @@
 -- What is told of an answer, put into a status and the lent numbers.
---     lent-refused, judged-refused       a refusal where a buffer is lent, and one of a search
+--     lent-refused                       a refusal where a buffer is lent
 --     kept_0, kept-refused               status 0 is no refusal; with any other the numbers and the buffer are as they were
 --     Numbers                            what a function promises that is lent no buffer: the equation, what a refusal leaves, what its numbers say
 --     numbers_gave, numbers-refused      its two paths: values, and a refusal
@@ -9,16 +9,13 @@ use mathlib.Core.Path.{◌≡◌, refl, ◌∙◌, ap}
 use mathlib.Core.List.{List, []}
 use Rattle.basics.specs.Told.{Told, Lent, values, refusal}
 use Rattle.verdict_answers.specs.Answers.{written}
-use Rattle.call_answers.specs.Calls.{got, answered, lent_answered, lent_judged}
+use Rattle.call_answers.specs.Calls.{got, answered, lent_answered}
 use Rattle.call_answers.specs.Meaning.{Kept}
 
 module _ (numbers : List ℕ) (lent : Lent) (number status : ℕ) (held : List ℕ) (e : record { told = refusal number; held = held } ≡ lent)
     (s : status ≡ number) where
   pub lent-refused : got status numbers held ≡ lent_answered lent numbers
   lent-refused = ap (λ (n : ℕ). got n numbers held) s ∙ ap (λ (a : Lent). lent_answered a numbers) e
-
-  pub judged-refused : got status numbers held ≡ lent_judged lent numbers
-  judged-refused = ap (λ (n : ℕ). got n numbers held) s ∙ ap (λ (a : Lent). lent_judged a numbers) e
 
 pub kept_0 : (numbers before held buffer : List ℕ) → Kept 0 numbers before held buffer
 kept_0 numbers before held buffer fails = absurd (fails refl)

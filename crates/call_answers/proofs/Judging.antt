@@ -1,8 +1,9 @@
 -- The paths of the operations on a table: what each tells, and what its numbers mean, from what the entry promises of the answer.
---     function_yes, function_no, function-refused
---     verdict_holds, verdict_broken, verdict_refused
---     range_clean, range_found, range_refused
---     dependence_gave, dependence_refused
+--     verdict_positive                a refusal's number is not 0
+--     same_bit                        a test as a number
+--     verdict_holds, verdict_broken
+--     range_found
+--     dependence_gave
 use Prim.Native.Nat.{ℕ, ◌<◌}
 use native.Mathlib.Omega.{arith}
 use mathlib.Core.Path.{◌≡◌, refl, sym, ◌∙◌, ap, subst}
@@ -10,24 +11,25 @@ use mathlib.Core.Logic.{◌⊎◌, inl, inr}
 use mathlib.Core.Bool.{Bool, true, false}
 use mathlib.Core.List.{List, [], ◌∷◌, map}
 use lib.Dec.{eqb}
+use Rattle.std.specs.Int.{from_bool}
+use Rattle.std.specs.Prelude.{Result, Ok}
 use Rattle.basics.specs.Folds.{one_if}
 use Rattle.basics.specs.Told.{Lent}
 use Rattle.wires.specs.Dependence.{SetDepends}
 use Rattle.records.specs.Layout.{wire_at}
-use Rattle.table.specs.declared.FunctionAnswer.{FunctionAnswer}
 use Rattle.table.specs.declared.Refusal as table-refusal
 use Rattle.table.specs.Answers as table-answers
-use Rattle.verdict_answers.specs.declared.VerdictAnswer.{VerdictAnswer}
-use Rattle.verdict_answers.specs.declared.RangeAnswer.{RangeAnswer}
-use Rattle.verdict_answers.specs.declared.DependenceAnswer.{DependenceAnswer}
+use Rattle.verdict_answers.specs.declared.Judged.{Judged}
+use Rattle.verdict_answers.specs.declared.Checked.{Checked}
+use Rattle.verdict_answers.specs.declared.DependsOn.{DependsOn}
 use Rattle.verdict_answers.specs.declared.Refusal.{Refusal}
 use Rattle.verdict_answers.specs.Answers.{refusal_number, verdict_told, range_told, dependence_told, notion_of, verdict_of, range_check, set_dependence}
 use Rattle.verdict_answers.specs.Guarantee.{Guarantee}
 use Rattle.verdict_answers.specs.First.{VerdictFinds, RangeFinds}
 use Rattle.verdict_answers.specs.Dependence.{DependenceMeans}
 use Rattle.call_answers.specs.Calls.{got, lent_judged}
-use Rattle.call_answers.specs.Meaning.{Kept, FunctionSays, VerdictSays, VerdictShows, RangeShows, DependenceSays}
-use Rattle.call_answers.proofs.Answering.{Numbers, numbers_gave, numbers-refused, judged-refused, kept_0}
+use Rattle.call_answers.specs.Meaning.{Kept, VerdictSays, VerdictShows, RangeShows, DependenceSays}
+use Rattle.call_answers.proofs.Answering.{Numbers, numbers_gave, kept_0}
 
 -- a refusal's number is not 0, so status 0 is no refusal
 table_positive : (why : table-refusal.Refusal) → 0 < table-answers.refusal_number why
@@ -45,30 +47,10 @@ verdict_positive Refusal.SizeTooLarge = omega arith
 verdict_positive Refusal.RanksOutOfRange = omega arith
 verdict_positive Refusal.NotASet = omega arith
 
-module _ (table : List ℕ) (shares masks function : ℕ) where
-  abbrev FunctionPromise : ℕ → ℕ → ℕ → Type 0
-  FunctionPromise status bit before =
-      Numbers (table-answers.function_check table shares masks function) (FunctionSays status bit table shares masks function) status (bit ∷ [])
-      (before ∷ [])
-
-  module _ (answer : FunctionAnswer) (told : table-answers.function_told answer ≡ table-answers.function_check table shares masks function)
-      (means : table-answers.FunctionMeans answer table shares masks function) (before : ℕ) where
-    pub function_yes : answer ≡ FunctionAnswer.Yes → FunctionPromise 0 1 before
-    function_yes e =
-        numbers_gave _ _ _ _ (ap table-answers.function_told (sym e) ∙ told)
-        (record { either = λ zero. inl refl; yes_exactly = λ zero. (λ one. means.yes_means e, λ adds. refl) })
-
-    pub function_no : answer ≡ FunctionAnswer.No → FunctionPromise 0 0 before
-    function_no e =
-        numbers_gave _ _ _ _ (ap table-answers.function_told (sym e) ∙ told)
-        (record { either = λ zero. inr refl; yes_exactly = λ zero. (λ one. absurd (omega (arith, one)), λ adds. absurd (means.no_means e adds)) })
-
-    pub function-refused : (why : table-refusal.Refusal) (status : ℕ) → answer ≡ FunctionAnswer.Refused why → status ≡ table-answers.refusal_number why
-        → FunctionPromise status before before
-    function-refused why status e s =
-        let positive = table_positive why in
-        numbers-refused _ _ _ _ _ (ap table-answers.function_told (sym e) ∙ told) s
-        (record { either = λ zero. absurd (omega arith); yes_exactly = λ zero. absurd (omega arith) })
+-- a test as a number, as the library has it
+pub same_bit : (b : Bool) → from_bool b ≡ one_if b
+same_bit true = refl
+same_bit false = refl
 
 -- ---- the verdict
 
@@ -80,19 +62,19 @@ module _ (table : List ℕ) (shares masks notion order : ℕ) (buffer held : Lis
       × (VerdictShows status holds size table shares masks notion order buffer held
       × VerdictSays status holds size table shares masks notion order held))
 
-  module _ (answer : VerdictAnswer) (told : verdict_told answer held ≡ verdict_of table shares masks notion order buffer)
+  module _ (answer : Result Judged Refusal) (told : verdict_told answer held ≡ verdict_of table shares masks notion order buffer)
       (finds : VerdictFinds answer table shares masks notion order buffer held) (guarantee : Guarantee answer table shares masks notion order held)
       (holds-before size-before : ℕ) where
     abbrev before : List ℕ
     before = holds-before ∷ size-before ∷ []
 
-    tells : (of : VerdictAnswer) → answer ≡ of → lent_judged (verdict_told of held) before ≡ lent_judged (verdict_of table shares masks notion order buffer) before
-    tells of e = ap (λ (a : Lent). lent_judged a before) (ap (λ (a : VerdictAnswer). verdict_told a held) (sym e) ∙ told)
+    tells : (of : Result Judged Refusal) → answer ≡ of → lent_judged (verdict_told of held) before ≡ lent_judged (verdict_of table shares masks notion order buffer) before
+    tells of e = ap (λ (a : Lent). lent_judged a before) (ap (λ (a : Result Judged Refusal). verdict_told a held) (sym e) ∙ told)
 
-    pub verdict_holds : answer ≡ VerdictAnswer.Holds → VerdictPromise 0 1 size-before before
+    pub verdict_holds : answer ≡ Ok Judged.Holds → VerdictPromise 0 1 size-before before
     verdict_holds e =
         let exactly = guarantee.holds-exactly (λ why f. let z : ◌≡◌ {A = ℕ} 0 1 = cc in omega (arith, z)) in (
-          tells VerdictAnswer.Holds e,
+          tells (Ok Judged.Holds) e,
           (
             kept_0 _ _ _ _,
             (
@@ -106,10 +88,10 @@ module _ (table : List ℕ) (shares masks notion order : ℕ) (buffer held : Lis
           ),
         )
 
-    pub verdict_broken : (size : ℕ) → answer ≡ VerdictAnswer.Broken size → VerdictPromise 0 0 size before
+    pub verdict_broken : (size : ℕ) → answer ≡ Ok (Judged.Broken size) → VerdictPromise 0 0 size before
     verdict_broken size e =
         let exactly = guarantee.holds-exactly (λ why f. let z : ◌≡◌ {A = ℕ} 0 1 = cc in omega (arith, z)) in (
-          tells (VerdictAnswer.Broken size) e,
+          tells (Ok (Judged.Broken size)) e,
           (
             kept_0 _ _ _ _,
             (
@@ -126,20 +108,6 @@ module _ (table : List ℕ) (shares masks notion order : ℕ) (buffer held : Lis
           ),
         )
 
-    pub verdict_refused : (why : Refusal) (status : ℕ) → answer ≡ VerdictAnswer.Refused why → status ≡ refusal_number why
-        → VerdictPromise status holds-before size-before before
-    verdict_refused why status e s =
-        let positive = verdict_positive why in (
-          judged-refused _ _ _ _ _ (ap (λ (a : VerdictAnswer). verdict_told a held) (sym e) ∙ told) s,
-          (
-            λ no. (refl, finds.refused why e),
-            (
-              record { none = λ zero. absurd (omega arith); first = λ zero. absurd (omega arith) },
-              record { either = λ zero. absurd (omega arith); holds-exactly = λ zero. absurd (omega arith); broken-shows = λ zero. absurd (omega arith) },
-            ),
-          ),
-        )
-
 -- ---- the range check
 
 module _ (table : List ℕ) (shares masks notion size from to : ℕ) (buffer held : List ℕ) where
@@ -149,39 +117,19 @@ module _ (table : List ℕ) (shares masks notion size from to : ℕ) (buffer hel
       × (Kept status (clean ∷ found ∷ rank ∷ []) before held buffer
       × RangeShows status clean found rank table shares masks notion size from to buffer held)
 
-  module _ (answer : RangeAnswer) (told : range_told answer held ≡ range_check table shares masks notion size from to buffer)
+  module _ (answer : Result Checked Refusal) (told : range_told answer held ≡ range_check table shares masks notion size from to buffer)
       (finds : RangeFinds answer table shares masks notion size from to buffer held) (clean-before found_before rank-before : ℕ) where
     abbrev range_before : List ℕ
     range_before = clean-before ∷ found_before ∷ rank-before ∷ []
 
-    pub range_clean : answer ≡ RangeAnswer.Clean → RangePromise 0 1 found_before rank-before range_before
-    range_clean e = (
-      ap (λ (a : Lent). lent_judged a range_before) (ap (λ (a : RangeAnswer). range_told a held) (sym e) ∙ told),
-      (
-        kept_0 _ _ _ _,
-        record { either = λ zero. inl refl; none = λ zero one. finds.clean e; first = λ zero one. absurd (omega (arith, one)) },
-      ),
-    )
-
-    pub range_found : (found rank : ℕ) → answer ≡ RangeAnswer.Found found rank → RangePromise 0 0 found rank range_before
+    pub range_found : (found rank : ℕ) → answer ≡ Ok (Checked.Found found rank) → RangePromise 0 0 found rank range_before
     range_found found rank e = (
-      ap (λ (a : Lent). lent_judged a range_before) (ap (λ (a : RangeAnswer). range_told a held) (sym e) ∙ told),
+      ap (λ (a : Lent). lent_judged a range_before) (ap (λ (a : Result Checked Refusal). range_told a held) (sym e) ∙ told),
       (
         kept_0 _ _ _ _,
         record { either = λ zero. inr refl; none = λ zero one. absurd (omega (arith, one)); first = λ zero one. finds.found found rank e },
       ),
     )
-
-    pub range_refused : (why : Refusal) (status : ℕ) → answer ≡ RangeAnswer.Refused why → status ≡ refusal_number why
-        → RangePromise status clean-before found_before rank-before range_before
-    range_refused why status e s =
-        let positive = verdict_positive why in (
-          judged-refused _ _ _ _ _ (ap (λ (a : RangeAnswer). range_told a held) (sym e) ∙ told) s,
-          (
-            λ no. (refl, finds.refused why e),
-            record { either = λ zero. absurd (omega arith); none = λ zero. absurd (omega arith); first = λ zero. absurd (omega arith) },
-          ),
-        )
 
 module _ (table : List ℕ) (shares masks notion : ℕ) (set : List ℕ) where
   abbrev DependencePromise : ℕ → ℕ → ℕ → ℕ → ℕ → List ℕ → Type 0
@@ -189,18 +137,18 @@ module _ (table : List ℕ) (shares masks notion : ℕ) (set : List ℕ) where
       Numbers (set_dependence table shares masks notion set) (DependenceSays status of_a of_b most bit table shares masks notion set) status
       (of_a ∷ of_b ∷ most ∷ bit ∷ []) before
 
-  module _ (answer : DependenceAnswer) (told : dependence_told answer ≡ set_dependence table shares masks notion set)
+  module _ (answer : Result DependsOn Refusal) (told : dependence_told answer ≡ set_dependence table shares masks notion set)
       (means : DependenceMeans answer table shares masks notion set) (a b k m : ℕ) where
-    pub dependence_gave : (of_a of_b most : ℕ) (left : Bool) (bit : ℕ) → answer ≡ DependenceAnswer.Depends of_a of_b most left → bit ≡ one_if left
-        → DependencePromise 0 of_a of_b most bit (a ∷ b ∷ k ∷ m ∷ [])
-    dependence_gave of_a of_b most left bit e f =
-        subst (λ (i : ℕ). DependencePromise 0 of_a of_b most i (a ∷ b ∷ k ∷ m ∷ [])) (sym f)
-        (numbers_gave _ _ _ (of_a ∷ of_b ∷ most ∷ one_if left ∷ []) (ap dependence_told (sym e) ∙ told) (record {
-          either = λ zero. either left;
-          depends = λ zero. subst (λ (x : Bool). SetDepends (notion_of notion) shares masks (map (wire_at table) set) of_a of_b most x) (back left)
-              (means.depends of_a of_b most left e);
-          breaks-exactly = λ zero. let exactly = means.breaks-exactly of_a of_b most left e in
-              (λ h. let r = exactly.0 h in (ap one_if r.0, r.1), λ h. exactly.1 (none left h.0, h.1));
+    pub dependence_gave : (on : DependsOn) (bit : ℕ) → answer ≡ Ok on → bit ≡ one_if on.masked
+        → DependencePromise 0 on.of_a on.of_b on.allowed bit (a ∷ b ∷ k ∷ m ∷ [])
+    dependence_gave on bit e f =
+        subst (λ (i : ℕ). DependencePromise 0 on.of_a on.of_b on.allowed i (a ∷ b ∷ k ∷ m ∷ [])) (sym f)
+        (numbers_gave _ _ _ (on.of_a ∷ on.of_b ∷ on.allowed ∷ one_if on.masked ∷ []) (ap dependence_told (sym e) ∙ told) (record {
+          either = λ zero. either on.masked;
+          depends = λ zero. subst (λ (x : Bool). SetDepends (notion_of notion) shares masks (map (wire_at table) set) on.of_a on.of_b on.allowed x) (back on.masked)
+              (means.depends on e);
+          breaks-exactly = λ zero. let exactly = means.breaks-exactly on e in
+              (λ h. let r = exactly.0 h in (ap one_if r.0, r.1), λ h. exactly.1 (none on.masked h.0, h.1));
         }))
       where
         either : (x : Bool) → (one_if x ≡ 1) ⊎ (one_if x ≡ 0)
@@ -214,13 +162,3 @@ module _ (table : List ℕ) (shares masks notion : ℕ) (set : List ℕ) where
         none : (x : Bool) → one_if x ≡ 0 → x ≡ false
         none true e = absurd (omega (arith, e))
         none false e = refl
-
-    pub dependence_refused : (why : Refusal) (status : ℕ) → answer ≡ DependenceAnswer.Refused why → status ≡ refusal_number why
-        → DependencePromise status a b k m (a ∷ b ∷ k ∷ m ∷ [])
-    dependence_refused why status e s =
-        let positive = verdict_positive why in
-        numbers-refused _ _ _ _ _ (ap dependence_told (sym e) ∙ told) s (record {
-          either = λ zero. absurd (omega (arith, positive));
-          depends = λ zero. absurd (omega (arith, positive));
-          breaks-exactly = λ zero. absurd (omega (arith, positive));
-        })

@@ -11,12 +11,13 @@ use mathlib.Core.Logic.{◌⊎◌, ⊎_elim}
 use mathlib.Core.Bool.{Bool, true, false, cond}
 use mathlib.Core.List.{List, [], ◌∷◌, ◌++◌}
 use borrow.Author.Tests.{lt-ltb, le-ltb, eqb-true, eqb-false}
-use lib.Dec.{eqb}
+use lib.Dec.{eqb, ltb}
 use lib.ListN.{length, get_or, take, drop, take-append-drop, replicate, length-replicate}
 use lib.Seq.{take_at, drop_at, length-take-le, get_or-take, ext_get_or}
 use Rattle.limits.specs.Limits.{max_order, max_wires, max_size, max_table_bytes}
 use Rattle.basics.specs.Told.{Told, values}
-use Rattle.description.specs.declared.Refusal.{Refusal}
+use Rattle.std.specs.Prelude.{Ok, Err}
+use Rattle.description.specs.declared.Fault.{Fault}
 use Rattle.description.specs.Run.{refusal_number}
 use Rattle.counts.specs.Counts.{binom}
 use Rattle.sets.specs.Answers.{set_count}
@@ -26,13 +27,12 @@ use Rattle.reader.specs.Answers.{ReadTold, ReadLent, gives, read_text}
 use Rattle.reader.proofs.Telling.{large-enough}
 use Rattle.reader.specs.Reads.{Readable}
 use Rattle.verdict_answers.specs.Answers.{written}
-use Rattle.plan_text.specs.declared.SizeAnswer.{SizeAnswer}
 use Rattle.plan_text.specs.declared.CheckSize.{CheckSize}
-use Rattle.plan_text.specs.Answers.{Sized, figures, answer_told, size_told, set_counts, check_size}
+use Rattle.plan_text.specs.Answers.{Sized, size_told, set_counts, check_size}
 use Rattle.plan_text.specs.Says.{OverMany, Refuses, SizeSays}
 use Rattle.plan_text.proofs.Counting.{counts-length, counts_at}
 use Rattle.plan_text.proofs.Sizing.{spelled-figures, figures-spelled}
-use Rattle.call_answers.specs.Calls.{Called, got, answered, read_answered, lent_read, figures_answered, size_answered}
+use Rattle.call_answers.specs.Calls.{Called, got, answered, read_answered, lent_read, size_answered}
 use Rattle.call_answers.specs.Meaning.{Kept, CheckSizeSays}
 use Rattle.call_answers.proofs.Answering.{kept_0}
 use Rattle.call_answers.proofs.Reading.{read_number}
@@ -44,34 +44,33 @@ module _ (text buffer : List ℕ) where
       × (Kept status (order ∷ shares ∷ masks ∷ wires ∷ bytes ∷ []) before held buffer
       × CheckSizeSays status order shares masks wires bytes offset offset-before text buffer held)
 
-  module _ (size : CheckSize) (told : size_told size ≡ check_size text) (says : SizeSays size.answer size.sets text)
-      (order-before shares-before masks-before wires-before bytes-before offset-before : ℕ) where
+  module _ (order-before shares-before masks-before wires-before bytes-before offset-before : ℕ) where
     abbrev before : List ℕ
     before = order-before ∷ shares-before ∷ masks-before ∷ wires-before ∷ bytes-before ∷ []
 
-    -- a text that can be read is told with its description's order
-    read-order : (o h m w b : ℕ) → size.answer ≡ SizeAnswer.Size o h m w b → (r : Readable text max_table_bytes) → r.description.order ≡ o
-    read-order o h m w b e r =
-        let same = ap answer_told (sym e) ∙ ap (λ (s : Sized). s.told) told ∙ spelled-figures text r in cc
+    module _ (size : CheckSize) (told : size_told (Ok size) ≡ check_size text) (says : SizeSays (Ok size) text) where
+      abbrev o : ℕ
+      o = size.order
 
-    module _ (o h m w b : ℕ) (e : size.answer ≡ SizeAnswer.Size o h m w b) where
-      tells : size_answered (check_size text) before offset-before buffer ≡ figures_answered (figures o h m w b) size.sets before offset-before buffer
-      tells =
-          ap (λ (s : Sized). size_answered s before offset-before buffer) (sym told)
-          ∙ ap (λ (a : SizeAnswer). figures_answered (answer_told a) size.sets before offset-before buffer) e
+      -- a text that can be read is told with its description's order
+      read-order : (r : Readable text max_table_bytes) → r.description.order ≡ o
+      read-order r = let same = ap (λ (s : Sized). s.told) told ∙ spelled-figures text r in cc
 
-      said : SizeSays (SizeAnswer.Size o h m w b) size.sets text
-      said = subst (λ (a : SizeAnswer). SizeSays a size.sets text) e says
+      abbrev figured : List ℕ
+      figured = o ∷ size.shares ∷ size.masks ∷ size.wires ∷ size.bytes ∷ offset-before ∷ []
+
+      abbrev called : Bool → Called
+      called short = cond short (got 16 (before ++ offset-before ∷ []) buffer) (got 0 figured (written (take o size.sets) buffer))
+
+      tells : size_answered (check_size text) before offset-before buffer ≡ called (ltb (length buffer) o)
+      tells = ap (λ (s : Sized). size_answered s before offset-before buffer) (sym told)
 
       readable : Readable text max_table_bytes
-      readable = figures-spelled text o h m w b (ap answer_told (sym e) ∙ ap (λ (s : Sized). s.told) told)
+      readable = figures-spelled text o size.shares size.masks size.wires size.bytes (ap (λ (s : Sized). s.told) told)
 
       -- as many numbers stand beside the answer
       pub size_low : o ≤ length size.sets
-      size_low = omega (arith, readable.spells.order-digit.1, read-order o h m w b e readable, said.1)
-
-      abbrev called : Bool → Called
-      called short = cond short (got 16 (before ++ offset-before ∷ []) buffer) (got 0 (o ∷ h ∷ m ∷ w ∷ b ∷ offset-before ∷ []) (written (take o size.sets) buffer))
+      size_low = omega (arith, readable.spells.order-digit.1, read-order readable, says.1)
 
       pub size_short : (status : ℕ) → length buffer < o → status ≡ 16
           → SizePromise status order-before shares-before masks-before wires-before bytes-before offset-before buffer before offset-before
@@ -84,64 +83,57 @@ module _ (text buffer : List ℕ) where
             past_kept = λ zero. absurd (omega (arith, s, zero));
             refuses = λ no other. absurd (other s);
             offset-kept = λ is. refl;
-            short-exactly = (λ is. (readable, omega (arith, less, read-order o h m w b e readable)), λ r. s);
+            short-exactly = (λ is. (readable, omega (arith, less, read-order readable)), λ r. s);
           },
         ),
       )
 
-      -- the code copies the part of the numbers from 0 to the order
-      pub size_gave : (held : List ℕ) → o ≤ length buffer → held ≡ take (o - 0) size.sets ++ drop (length (take (o - 0) size.sets)) buffer
-          → SizePromise 0 o h m w b offset-before held before offset-before
-      size_gave held room g =
-          let same : o - 0 ≡ o = omega arith in
-          let f : held ≡ take o size.sets ++ drop (length (take o size.sets)) buffer =
-          g ∙ ap (λ (n : ℕ). take n size.sets ++ drop (length (take n size.sets)) buffer) same in
+      -- the code copies the part of the numbers up to the order
+      pub size_gave : (held : List ℕ) → o ≤ length buffer → held ≡ take o size.sets ++ drop (length (take o size.sets)) buffer
+          → SizePromise 0 o size.shares size.masks size.wires size.bytes offset-before held before offset-before
+      size_gave held room f =
           let few : length (take o size.sets) ≡ o = length-take-le o size.sets size_low in
           let front : take o held ≡ take o size.sets = ap (take o) f ∙ take_at (take o size.sets) (drop (length (take o size.sets)) buffer) o few in
           let rest : drop o held ≡ drop o buffer =
           ap (drop o) f ∙ drop_at (take o size.sets) (drop (length (take o size.sets)) buffer) o few ∙ ap (λ (n : ℕ). drop n buffer) few in (
-            ap (λ (l : List ℕ). got 0 (o ∷ h ∷ m ∷ w ∷ b ∷ offset-before ∷ []) l) f ∙ sym (tells ∙ ap called (le-ltb (length buffer) o room)),
+            ap (λ (l : List ℕ). got 0 figured l) f ∙ sym (tells ∙ ap called (le-ltb (length buffer) o room)),
             (
               kept_0 _ _ _ _,
               record {
                 figures = λ zero. record {
-                  reads = said.0.reads;
-                  short = said.0.short;
+                  reads = says.0.reads;
+                  short = says.0.short;
                   counts = λ k first last.
                       let at : k - 1 < o = omega (arith, first, last) in
-                      said.0.counts k first last
+                      says.0.counts k first last
                       ∙ ap (λ (n : ℕ). values (n ∷ []))
                       (sym (get_or-take o size.sets (k - 1) 0 at) ∙ ap (λ (l : List ℕ). get_or l (k - 1) 0) (sym front) ∙ get_or-take o held (k - 1) 0 at);
                 };
                 past_kept = λ zero. rest;
                 refuses = λ no other. absurd (no refl);
                 offset-kept = λ is. refl;
-                short-exactly = (λ is. absurd (omega (arith, is)), λ r. absurd (omega (arith, r.1, read-order o h m w b e r.0, room)));
+                short-exactly = (λ is. absurd (omega (arith, is)), λ r. absurd (omega (arith, r.1, read-order r.0, room)));
               },
             ),
           )
 
-    pub size_refused : (why : Refusal) (offset status : ℕ) → size.answer ≡ SizeAnswer.Refused why offset → status ≡ refusal_number why
-        → SizePromise status order-before shares-before masks-before wires-before bytes-before offset buffer before offset-before
-    size_refused why offset status e s =
-        let positive = (read_number why).0 in
-        let small = (read_number why).1 in
-        let said : SizeSays (SizeAnswer.Refused why offset) size.sets text = subst (λ (a : SizeAnswer). SizeSays a size.sets text) e says in (
-          ap (λ (n : ℕ). got n (before ++ offset ∷ []) buffer) s
-              ∙ sym
-              (ap (λ (t : Sized). size_answered t before offset-before buffer) (sym told)
-              ∙ ap (λ (a : SizeAnswer). figures_answered (answer_told a) size.sets before offset-before buffer) e),
+    pub size_refused : (fault : Fault) → size_told (Err fault) ≡ check_size text → SizeSays (Err fault) text → (status : ℕ) → status ≡ refusal_number fault.why
+        → SizePromise status order-before shares-before masks-before wires-before bytes-before fault.offset buffer before offset-before
+    size_refused fault told says status s =
+        let positive = (read_number fault.why).0 in
+        let small = (read_number fault.why).1 in (
+          ap (λ (n : ℕ). got n (before ++ fault.offset ∷ []) buffer) s ∙ ap (λ (t : Sized). size_answered t before offset-before buffer) told,
           (
             λ no. (refl, refl),
             record {
               figures = λ zero. absurd (omega (arith, s, zero, positive));
               past_kept = λ zero. absurd (omega (arith, s, zero, positive));
-              refuses = λ no other. subst (λ (n : ℕ). Refuses text n offset) (sym s) said.0;
+              refuses = λ no other. subst (λ (n : ℕ). Refuses text n fault.offset) (sym s) says;
               offset-kept = ⊎_elim (λ is. absurd (omega (arith, s, is, positive))) (λ is. absurd (omega (arith, s, is, small)));
               short-exactly = (
                 λ is. absurd (omega (arith, s, is, small)),
                 λ r.
-                    let both = ap answer_told (sym e) ∙ ap (λ (t : Sized). t.told) told ∙ spelled-figures text r.0 in
+                    let both = ap (λ (t : Sized). t.told) told ∙ spelled-figures text r.0 in
                     let z : ◌≡◌ {A = ℕ} 0 1 = cc in absurd (omega (arith, z)),
               );
             },

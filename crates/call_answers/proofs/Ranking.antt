@@ -15,13 +15,9 @@ use Rattle.sets.proofs.Conditions.{count_chain, set_chain, rank_chain, set_settl
 use Rattle.division.proofs.Conditions.{job_chain}
 use Rattle.counts.specs.Counts.{binom}
 use Rattle.sets.specs.declared.Refusal.{Refusal}
-use Rattle.sets.specs.declared.CountAnswer.{CountAnswer}
-use Rattle.sets.specs.declared.SetAnswer.{SetAnswer}
-use Rattle.sets.specs.declared.RankAnswer.{RankAnswer}
-use Rattle.division.specs.declared.JobAnswer.{JobAnswer}
 use Rattle.revolving.specs.Order.{set_at}
-use Rattle.sets.specs.Answers.{refusal_number, count_told, set_told, rank_told, set_count, set_from_rank, rank_from_set}
-use Rattle.division.specs.Answers.{job_told, job_ranks}
+use Rattle.sets.specs.Answers.{refusal_number, set_count, set_from_rank, rank_from_set}
+use Rattle.division.specs.Answers.{job_ranks}
 use Rattle.revolving.proofs.Rising.{is_set-parts}
 use Rattle.revolving.proofs.Revolving.{set_at-is-set}
 use Rattle.verdict_answers.specs.Answers.{written}
@@ -41,42 +37,37 @@ sets_positive Refusal.NotASet = omega arith
 not_0 : {A : Type 0} (why : Refusal) (status : ℕ) → status ≡ refusal_number why → status ≡ 0 → A
 not_0 why status s zero = absurd (omega (arith, sets_positive why))
 
-module _ (wires size : ℕ) where
-  module _ (answer : CountAnswer) (told : count_told answer ≡ set_count wires size) (before : ℕ) where
-    pub count_gave : (sets : ℕ) → answer ≡ CountAnswer.Sets sets
-        → Numbers (set_count wires size) (CountSays 0 sets wires size) 0 (sets ∷ []) (before ∷ [])
-    count_gave sets e =
-        let tells = ap count_told (sym e) ∙ told in
-        let same = own_told (count_chain wires size) (sets ∷ []) (sym tells) in
-        numbers_gave _ _ _ _ tells (λ zero. cc)
+module _ (wires size before : ℕ) where
+  pub count_gave : (sets : ℕ) → values (sets ∷ []) ≡ set_count wires size → Numbers (set_count wires size) (CountSays 0 sets wires size) 0 (sets ∷ []) (before ∷ [])
+  count_gave sets tells =
+      let same = own_told (count_chain wires size) (sets ∷ []) (sym tells) in
+      numbers_gave _ _ _ _ tells (λ zero. cc)
 
-    pub count-refused : (why : Refusal) (status : ℕ) → answer ≡ CountAnswer.Refused why → status ≡ refusal_number why
-        → Numbers (set_count wires size) (CountSays status before wires size) status (before ∷ []) (before ∷ [])
-    count-refused why status e s = numbers-refused _ _ _ _ _ (ap count_told (sym e) ∙ told) s (λ zero. not_0 why status s zero)
+  pub count-refused : (why : Refusal) (status : ℕ) → refusal (refusal_number why) ≡ set_count wires size → status ≡ refusal_number why
+      → Numbers (set_count wires size) (CountSays status before wires size) status (before ∷ []) (before ∷ [])
+  count-refused why status tells s = numbers-refused _ _ _ _ _ tells s (λ zero. not_0 why status s zero)
 
-  module _ (job jobs : ℕ) (answer : JobAnswer) (told : job_told answer ≡ job_ranks wires size job jobs) (from-before to-before : ℕ) where
-    pub job_gave : (from to : ℕ) → answer ≡ JobAnswer.Ranks from to
-        → Numbers (job_ranks wires size job jobs) (JobSays 0 from to wires size job jobs) 0 (from ∷ to ∷ []) (from-before ∷ to-before ∷ [])
-    job_gave from to e =
-        let tells = ap job_told (sym e) ∙ told in
-        let same = own_told (job_chain wires size job jobs) (from ∷ to ∷ []) (sym tells) in
-        numbers_gave _ _ _ _ tells (λ zero. (cc, cc))
+module _ (wires size job jobs from-before to-before : ℕ) where
+  pub job_gave : (from to : ℕ) → values (from ∷ to ∷ []) ≡ job_ranks wires size job jobs
+      → Numbers (job_ranks wires size job jobs) (JobSays 0 from to wires size job jobs) 0 (from ∷ to ∷ []) (from-before ∷ to-before ∷ [])
+  job_gave from to tells =
+      let same = own_told (job_chain wires size job jobs) (from ∷ to ∷ []) (sym tells) in
+      numbers_gave _ _ _ _ tells (λ zero. (cc, cc))
 
-    pub job-refused : (why : Refusal) (status : ℕ) → answer ≡ JobAnswer.Refused why → status ≡ refusal_number why
-        → Numbers (job_ranks wires size job jobs) (JobSays status from-before to-before wires size job jobs) status (from-before ∷ to-before ∷ [])
-        (from-before ∷ to-before ∷ [])
-    job-refused why status e s = numbers-refused _ _ _ _ _ (ap job_told (sym e) ∙ told) s (λ zero. not_0 why status s zero)
+  pub job-refused : (why : Refusal) (status : ℕ) → refusal (refusal_number why) ≡ job_ranks wires size job jobs → status ≡ refusal_number why
+      → Numbers (job_ranks wires size job jobs) (JobSays status from-before to-before wires size job jobs) status (from-before ∷ to-before ∷ [])
+      (from-before ∷ to-before ∷ [])
+  job-refused why status tells s = numbers-refused _ _ _ _ _ tells s (λ zero. not_0 why status s zero)
 
-module _ (wires : ℕ) (set : List ℕ) (answer : RankAnswer) (told : rank_told answer ≡ rank_from_set wires set) (before : ℕ) where
-  pub rank_gave : (rank : ℕ) → answer ≡ RankAnswer.Rank rank → Numbers (rank_from_set wires set) (RankSays 0 rank wires set) 0 (rank ∷ []) (before ∷ [])
-  rank_gave rank e =
-      let tells = ap rank_told (sym e) ∙ told in
+module _ (wires : ℕ) (set : List ℕ) (before : ℕ) where
+  pub rank_gave : (rank : ℕ) → values (rank ∷ []) ≡ rank_from_set wires set → Numbers (rank_from_set wires set) (RankSays 0 rank wires set) 0 (rank ∷ []) (before ∷ [])
+  rank_gave rank tells =
       let same = own_told (rank_chain wires set) (rank ∷ []) (sym tells) in
       numbers_gave _ _ _ _ tells (λ zero. cc)
 
-  pub rank-refused : (why : Refusal) (status : ℕ) → answer ≡ RankAnswer.Refused why → status ≡ refusal_number why
+  pub rank-refused : (why : Refusal) (status : ℕ) → refusal (refusal_number why) ≡ rank_from_set wires set → status ≡ refusal_number why
       → Numbers (rank_from_set wires set) (RankSays status before wires set) status (before ∷ []) (before ∷ [])
-  rank-refused why status e s = numbers-refused _ _ _ _ _ (ap rank_told (sym e) ∙ told) s (λ zero. not_0 why status s zero)
+  rank-refused why status tells s = numbers-refused _ _ _ _ _ tells s (λ zero. not_0 why status s zero)
 
 -- ---- set from rank
 
@@ -102,20 +93,17 @@ module _ (wires size rank : ℕ) (buffer held : List ℕ) where
   SetPromise status =
       (got status [] held ≡ lent_answered lent []) × (Kept status [] [] held buffer × SetSays status wires size rank buffer held)
 
-  module _ (answer : SetAnswer) (told : set_told answer held ≡ set_from_rank wires size rank buffer) where
-    pub set_gave : answer ≡ SetAnswer.Written → SetPromise 0
-    set_gave e =
-        let tells = ap (λ (a : SetAnswer). set_told a held) (sym e) ∙ told in (
-          ap (λ (a : Lent). lent_answered a []) tells,
-          (kept_0 _ _ _ _, λ zero. right (ap (λ (a : Lent). a.told) tells) (ap (λ (a : Lent). a.held) tells)),
-        )
+  pub set_gave : record { told = values []; held = held } ≡ lent → SetPromise 0
+  set_gave tells = (
+    ap (λ (a : Lent). lent_answered a []) tells,
+    (kept_0 _ _ _ _, λ zero. right (ap (λ (a : Lent). a.told) tells) (ap (λ (a : Lent). a.held) tells)),
+  )
 
-    pub set-refused : (why : Refusal) (status : ℕ) → answer ≡ SetAnswer.Refused why → status ≡ refusal_number why → SetPromise status
-    set-refused why status e s =
-        let tells = ap (λ (a : SetAnswer). set_told a held) (sym e) ∙ told in (
-          lent-refused [] lent _ status held tells s,
-          (
-            λ no. (refl, kept (refusal_number why) (ap (λ (a : Lent). a.told) tells) (ap (λ (a : Lent). a.held) tells)),
-            λ zero. not_0 why status s zero,
-          ),
-        )
+  pub set-refused : (why : Refusal) (status : ℕ) → record { told = refusal (refusal_number why); held = held } ≡ lent → status ≡ refusal_number why → SetPromise status
+  set-refused why status tells s = (
+    lent-refused [] lent _ status held tells s,
+    (
+      λ no. (refl, kept (refusal_number why) (ap (λ (a : Lent). a.told) tells) (ap (λ (a : Lent). a.held) tells)),
+      λ zero. not_0 why status s zero,
+    ),
+  )

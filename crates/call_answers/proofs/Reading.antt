@@ -11,6 +11,7 @@ use mathlib.Core.Bool.{Bool, true, false, cond}
 use mathlib.Core.List.{List, [], ◌∷◌, ◌++◌}
 use lib.ListN.{length, take, drop}
 use lib.Seq.{drop-append_seam}
+use Rattle.std.specs.Prelude.{Result, Ok, Err}
 use Rattle.limits.specs.Limits.{record_bytes}
 use Rattle.basics.specs.Told.{Lent, values, turned_down}
 use Rattle.basics.specs.Conditions.{◌when◌, SettlesLent}
@@ -20,13 +21,13 @@ use Rattle.description.specs.Listing.{records_of}
 use Rattle.description.specs.Run as run
 use Rattle.description.specs.Run.{refusal_number}
 use Rattle.description.proofs.Encoding.{length-records}
-use Rattle.scratch_reader.specs.declared.ReadAnswer.{ReadAnswer}
-use Rattle.reader.specs.declared.PartAnswer.{PartAnswer}
+use Rattle.description.specs.declared.Fault.{Fault}
+use Rattle.scratch_reader.specs.declared.Reading.{Reading as Figures}
+use Rattle.reader.specs.declared.Part.{Part}
 use Rattle.reader.specs.declared.PartRefusal.{PartRefusal}
 use Rattle.reader.specs.Answers.{gives, refused, ReadLent, too_large, lent_reading, read_told, read_text, part_refusal_number, part_told, part_check}
 use Rattle.reader.specs.Reads.{ReadsGrammar}
 use Rattle.reader.proofs.Parts.{part-exactly, part-told}
-use Rattle.report_text.specs.declared.ReportAnswer.{ReportAnswer}
 use Rattle.report_text.specs.declared.Refusal as report-refusal
 use Rattle.report_text.specs.Report as report
 use Rattle.report_lines.specs.Report as report-lines
@@ -60,40 +61,40 @@ part_positive PartRefusal.OutsideTheText = omega arith
 
 module _ (text table held : List ℕ) where
   -- the table as reading leaves it, whatever the text is
-  module _ (order shares masks wires : ℕ) where
-    read_past : (r : run.Reading) → read_told (ReadAnswer.Read order shares masks wires) held ≡ lent_reading text table r
-        → drop (record_bytes * wires) held ≡ drop (record_bytes * wires) table
+  module _ (f : Figures) where
+    read_past : (r : run.Reading) → read_told (Ok f) held ≡ lent_reading text table r
+        → drop (record_bytes * f.wires) held ≡ drop (record_bytes * f.wires) table
     read_past (run.turned_down why offset) e =
-        let same : gives order shares masks wires ≡ refused (refusal_number why) offset = ap (λ (l : ReadLent). l.told) e in
+        let same : gives f.order f.shares f.masks f.wires ≡ refused (refusal_number why) offset = ap (λ (l : ReadLent). l.told) e in
         let z : ◌≡◌ {A = ℕ} 0 1 = cc in absurd (omega (arith, z))
     read_past (run.read o m ws) e = sized (too_large table (length ws)) e
       where
-        sized : (b : Bool) → read_told (ReadAnswer.Read order shares masks wires) held
+        sized : (b : Bool) → read_told (Ok f) held
             ≡ cond b (record { told = refused 10 (length text); held = table })
             (record { told = gives o (o + 1) m (length ws); held = records_of ws ++ drop (record_bytes * length ws) table })
-            → drop (record_bytes * wires) held ≡ drop (record_bytes * wires) table
+            → drop (record_bytes * f.wires) held ≡ drop (record_bytes * f.wires) table
         sized true e =
-            let same : gives order shares masks wires ≡ refused 10 (length text) = ap (λ (l : ReadLent). l.told) e in
+            let same : gives f.order f.shares f.masks f.wires ≡ refused 10 (length text) = ap (λ (l : ReadLent). l.told) e in
             let z : ◌≡◌ {A = ℕ} 0 1 = cc in absurd (omega (arith, z))
         sized false e =
-            let same : gives order shares masks wires ≡ gives o (o + 1) m (length ws) = ap (λ (l : ReadLent). l.told) e in
-            let many : wires ≡ length ws = cc in
-            let long : record_bytes * wires ≡ length (records_of ws) = omega (arith, many, length-records ws) in
+            let same : gives f.order f.shares f.masks f.wires ≡ gives o (o + 1) m (length ws) = ap (λ (l : ReadLent). l.told) e in
+            let many : f.wires ≡ length ws = cc in
+            let long : record_bytes * f.wires ≡ length (records_of ws) = omega (arith, many, length-records ws) in
             ap₂ {C = List ℕ} drop long (ap (λ (l : ReadLent). l.held) e)
             ∙ drop-append_seam (records_of ws) (drop (record_bytes * length ws) table)
             ∙ ap (λ (n : ℕ). drop (record_bytes * n) table) (sym many)
 
-  read_kept : (why : Refusal) (offset : ℕ) (r : run.Reading) → read_told (ReadAnswer.Refused why offset) held ≡ lent_reading text table r → held ≡ table
-  read_kept why offset (run.turned_down other place) e = ap (λ (l : ReadLent). l.held) e
-  read_kept why offset (run.read o m ws) e = sized (too_large table (length ws)) e
+  read_kept : (fault : Fault) (r : run.Reading) → read_told (Err fault) held ≡ lent_reading text table r → held ≡ table
+  read_kept fault (run.turned_down other place) e = ap (λ (l : ReadLent). l.held) e
+  read_kept fault (run.read o m ws) e = sized (too_large table (length ws)) e
     where
-      sized : (b : Bool) → read_told (ReadAnswer.Refused why offset) held
+      sized : (b : Bool) → read_told (Err fault) held
           ≡ cond b (record { told = refused 10 (length text); held = table })
           (record { told = gives o (o + 1) m (length ws); held = records_of ws ++ drop (record_bytes * length ws) table })
           → held ≡ table
       sized true e = ap (λ (l : ReadLent). l.held) e
       sized false e =
-          let same : refused (refusal_number why) offset ≡ gives o (o + 1) m (length ws) = ap (λ (l : ReadLent). l.told) e in
+          let same : refused (refusal_number fault.why) fault.offset ≡ gives o (o + 1) m (length ws) = ap (λ (l : ReadLent). l.told) e in
           let z : ◌≡◌ {A = ℕ} 0 1 = cc in absurd (omega (arith, z))
 
   abbrev ReadPromise : ℕ → ℕ → ℕ → ℕ → ℕ → ℕ → List ℕ → ℕ → Type 0
@@ -102,41 +103,36 @@ module _ (text table held : List ℕ) where
       × (Kept status (order ∷ shares ∷ masks ∷ wires ∷ []) before held table
       × ReadSays status order shares masks wires text table held)
 
-  module _ (answer : ReadAnswer) (told : read_told answer held ≡ read_text text table) (reads : ReadsGrammar answer text (length table) held)
-      (order-before shares-before masks-before wires-before offset-before : ℕ) where
+  module _ (order-before shares-before masks-before wires-before offset-before : ℕ) where
     abbrev before : List ℕ
     before = order-before ∷ shares-before ∷ masks-before ∷ wires-before ∷ []
 
-    pub read_gave : (order shares masks wires : ℕ) → answer ≡ ReadAnswer.Read order shares masks wires
-        → ReadPromise 0 order shares masks wires offset-before before offset-before
-    read_gave order shares masks wires e =
-        let tells = ap (λ (a : ReadAnswer). read_told a held) (sym e) ∙ told in (
-          ap (λ (a : ReadLent). lent_read a before offset-before) tells,
-          (
-            kept_0 _ _ _ _,
-            record {
-              read-exactly = (
-                λ zero. reads.read-exactly.0 (λ why offset f. let z : ◌≡◌ {A = ℕ} 0 1 = cc in omega (arith, z)),
-                λ readable. refl,
-              );
-              read-gives = λ zero. reads.read-gives order shares masks wires e;
-              past_kept = λ zero. read_past order shares masks wires (run.reading text) tells;
-              read-passes = λ zero. reads.read-passes order shares masks wires e;
-            },
-          ),
-        )
+    pub read_gave : (r : Figures) → read_told (Ok r) held ≡ read_text text table → ReadsGrammar (Ok r) text (length table) held
+        → ReadPromise 0 r.order r.shares r.masks r.wires offset-before before offset-before
+    read_gave r tells reads = (
+      ap (λ (a : ReadLent). lent_read a before offset-before) tells,
+      (
+        kept_0 _ _ _ _,
+        record {
+          read-exactly = (λ zero. reads.read-exactly.0 (λ fault f. let z : ◌≡◌ {A = ℕ} 0 1 = cc in omega (arith, z)), λ readable. refl);
+          read-gives = λ zero. reads.read-gives r refl;
+          past_kept = λ zero. read_past r (run.reading text) tells;
+          read-passes = λ zero. reads.read-passes r refl;
+        },
+      ),
+    )
 
-    pub read-refused : (why : Refusal) (offset status : ℕ) → answer ≡ ReadAnswer.Refused why offset → status ≡ refusal_number why
-        → ReadPromise status order-before shares-before masks-before wires-before offset before offset-before
-    read-refused why offset status e s =
-        let positive = (read_number why).0 in
-        let tells = ap (λ (a : ReadAnswer). read_told a held) (sym e) ∙ told in (
-          ap (λ (n : ℕ). got n (order-before ∷ shares-before ∷ masks-before ∷ wires-before ∷ offset ∷ []) held) s
+    pub read-refused : (fault : Fault) → read_told (Err fault) held ≡ read_text text table → ReadsGrammar (Err fault) text (length table) held
+        → (status : ℕ) → status ≡ refusal_number fault.why
+        → ReadPromise status order-before shares-before masks-before wires-before fault.offset before offset-before
+    read-refused fault tells reads status s =
+        let positive = (read_number fault.why).0 in (
+          ap (λ (n : ℕ). got n (order-before ∷ shares-before ∷ masks-before ∷ wires-before ∷ fault.offset ∷ []) held) s
               ∙ ap (λ (a : ReadLent). lent_read a before offset-before) tells,
           (
-            λ no. (refl, read_kept why offset (run.reading text) tells),
+            λ no. (refl, read_kept fault (run.reading text) tells),
             record {
-              read-exactly = (λ zero. absurd (omega arith), λ readable. absurd (reads.read-exactly.1 readable why offset e));
+              read-exactly = (λ zero. absurd (omega arith), λ readable. absurd (reads.read-exactly.1 readable fault refl));
               read-gives = λ zero. absurd (omega arith);
               past_kept = λ zero. absurd (omega arith);
               read-passes = λ zero. absurd (omega arith);
@@ -150,22 +146,20 @@ module _ (text table : List ℕ) (wire : ℕ) where
   abbrev PartPromise : ℕ → ℕ → ℕ → List ℕ → Type 0
   PartPromise status offset size before = Numbers (part_check text table wire) (PartSays status offset size text table wire) status (offset ∷ size ∷ []) before
 
-  module _ (answer : PartAnswer) (told : part_told answer ≡ part_check text table wire) (offset-before size-before : ℕ) where
-    pub part_gave : (offset size : ℕ) → answer ≡ PartAnswer.Part offset size → PartPromise 0 offset size (offset-before ∷ size-before ∷ [])
-    part_gave offset size e =
-        let tells = ap part_told (sym e) ∙ told in
+  module _ (offset-before size-before : ℕ) where
+    pub part_gave : (part : Part) → part_told (Ok part) ≡ part_check text table wire → PartPromise 0 part.offset part.length (offset-before ∷ size-before ∷ [])
+    part_gave part tells =
         numbers_gave _ _ _ _ tells
         (record {
-          inside = λ zero. ((part-exactly text table wire offset size).0 (sym tells)).inside;
-          part = λ zero. sym ((part-told text table wire).1 offset size (sym tells));
+          inside = λ zero. ((part-exactly text table wire part.offset part.length).0 (sym tells)).inside;
+          part = λ zero. sym ((part-told text table wire).1 part.offset part.length (sym tells));
         })
 
-    pub part-refused : (why : PartRefusal) (status : ℕ) → answer ≡ PartAnswer.Refused why → status ≡ part_refusal_number why
+    pub part-refused : (why : PartRefusal) → part_told (Err why) ≡ part_check text table wire → (status : ℕ) → status ≡ part_refusal_number why
         → PartPromise status offset-before size-before (offset-before ∷ size-before ∷ [])
-    part-refused why status e s =
+    part-refused why tells status s =
         let positive = part_positive why in
-        numbers-refused _ _ _ _ _ (ap part_told (sym e) ∙ told) s
-        (record { inside = λ zero. absurd (omega arith); part = λ zero. absurd (omega arith) })
+        numbers-refused _ _ _ _ _ tells s (record { inside = λ zero. absurd (omega arith); part = λ zero. absurd (omega arith) })
 
 -- ---- the report
 
@@ -179,7 +173,7 @@ module _ (text buffer held : List ℕ) where
   settled : SettlesLent (16 when (length buffer < length (report-lines.report text)) ∷ []) buffer (report.report_text text buffer)
   settled = settles-lent chain (length (report-lines.report text) ∷ []) refl
 
-  right : (size : ℕ) → report.report_told (ReportAnswer.Written size) held ≡ report.report_text text buffer
+  right : (size : ℕ) → report.report_told (Ok size) held ≡ report.report_text text buffer
       → (take size held ≡ report-lines.report text) × (drop size held ≡ drop size buffer)
   right size e =
       let whole = e ∙ chain.none (settled.settles.answered.0 (size ∷ [], sym (ap (λ (a : Lent). a.told) e))) in
@@ -188,7 +182,7 @@ module _ (text buffer held : List ℕ) where
       let same : held ≡ written (report-lines.report text) buffer = ap (λ (a : Lent). a.held) whole in
       (written_front buffer size held (report-lines.report text) long same, written-rest buffer size held (report-lines.report text) long same)
 
-  kept : (why : report-refusal.Refusal) → report.report_told (ReportAnswer.Refused why) held ≡ report.report_text text buffer → held ≡ buffer
+  kept : (why : report-refusal.Refusal) → report.report_told (Err why) held ≡ report.report_text text buffer → held ≡ buffer
   kept why e = ap (λ (a : Lent). a.held) e ∙ settled.kept (report.refusal_number why) (sym (ap (λ (a : Lent). a.told) e))
 
   abbrev ReportPromise : ℕ → ℕ → ℕ → Type 0
@@ -196,11 +190,11 @@ module _ (text buffer held : List ℕ) where
       (got status (size ∷ []) held ≡ lent_answered (report.report_text text buffer) (before ∷ []))
       × (Kept status (size ∷ []) (before ∷ []) held buffer × ReportSays status size text buffer held)
 
-  module _ (answer : ReportAnswer) (told : report.report_told answer held ≡ report.report_text text buffer)
+  module _ (answer : Result ℕ report-refusal.Refusal) (told : report.report_told answer held ≡ report.report_text text buffer)
       (room : report.RoomEnough answer (length buffer)) (before : ℕ) where
-    pub report_gave : (size : ℕ) → answer ≡ ReportAnswer.Written size → ReportPromise 0 size before
+    pub report_gave : (size : ℕ) → answer ≡ Ok size → ReportPromise 0 size before
     report_gave size e =
-        let tells = ap (λ (a : ReportAnswer). report.report_told a held) (sym e) ∙ told in (
+        let tells = ap (λ (a : Result ℕ report-refusal.Refusal). report.report_told a held) (sym e) ∙ told in (
           ap (λ (a : Lent). lent_answered a (before ∷ [])) tells,
           (
             kept_0 _ _ _ _,
@@ -208,11 +202,11 @@ module _ (text buffer held : List ℕ) where
           ),
         )
 
-    pub report-refused : (why : report-refusal.Refusal) (status : ℕ) → answer ≡ ReportAnswer.Refused why → status ≡ report.refusal_number why
+    pub report-refused : (why : report-refusal.Refusal) (status : ℕ) → answer ≡ Err why → status ≡ report.refusal_number why
         → ReportPromise status before before
     report-refused why status e s =
         let positive = report_positive why in
-        let tells = ap (λ (a : ReportAnswer). report.report_told a held) (sym e) ∙ told in (
+        let tells = ap (λ (a : Result ℕ report-refusal.Refusal). report.report_told a held) (sym e) ∙ told in (
           lent-refused _ _ _ _ _ tells s,
           (
             λ no. (refl, kept why tells),

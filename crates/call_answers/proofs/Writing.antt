@@ -7,6 +7,7 @@ use mathlib.Core.Path.{◌≡◌, refl, sym, ◌∙◌, ap}
 use mathlib.Core.Logic.{⊎_elim}
 use mathlib.Core.List.{List, [], ◌∷◌}
 use lib.ListN.{length, take, drop}
+use Rattle.std.specs.Prelude.{Result, Ok, Err}
 use Rattle.limits.specs.Limits.{record_bytes}
 use Rattle.basics.specs.Told.{Told, Lent}
 use Rattle.table.specs.Answers.{function_check}
@@ -15,7 +16,6 @@ use Rattle.reader.specs.Answers.{ReadTold, read_text}
 use Rattle.isw_gadget.specs.Pairs.{pairs}
 use Rattle.isw_gadget.specs.Says.{IswSpelled}
 use Rattle.isw_gadget.specs.declared.Refusal.{Refusal}
-use Rattle.isw_gadget.specs.declared.IswAnswer.{IswAnswer}
 use Rattle.isw_gadget.specs.Answers.{max_isw_order, refusal_number, isw_told, isw_written}
 use Rattle.isw_gadget.specs.Reads.{isw_wires, IswSays}
 use Rattle.isw_gadget.proofs.Exactly.{spelled-once}
@@ -34,20 +34,20 @@ module _ (order : ℕ) (buffer held : List ℕ) where
       (got status (size ∷ []) held ≡ lent_answered (isw_written order buffer) (before ∷ []))
       × (Kept status (size ∷ []) (before ∷ []) held buffer × IswTextSays status size order buffer held)
 
-  module _ (answer : IswAnswer) (told : isw_told answer held ≡ isw_written order buffer) (says : IswSays answer order buffer held) (before : ℕ) where
-    pub isw_gave : (size : ℕ) → answer ≡ IswAnswer.Written size → IswPromise 0 size before
+  module _ (answer : Result ℕ Refusal) (told : isw_told answer held ≡ isw_written order buffer) (says : IswSays answer order buffer held) (before : ℕ) where
+    pub isw_gave : (size : ℕ) → answer ≡ Ok size → IswPromise 0 size before
     isw_gave size e = (
-      ap (λ (a : Lent). lent_answered a (before ∷ [])) (ap (λ (a : IswAnswer). isw_told a held) (sym e) ∙ told),
+      ap (λ (a : Lent). lent_answered a (before ∷ [])) (ap (λ (a : Result ℕ Refusal). isw_told a held) (sym e) ∙ told),
       (
         kept_0 _ _ _ _,
         record { written = λ zero. says.stands size e; spelled = λ zero. says.spelled size e; reads = λ zero. says.reads size e; enough = λ no. absurd (no refl) },
       ),
     )
 
-    pub isw_refused : (why : Refusal) (status : ℕ) → answer ≡ IswAnswer.Refused why → status ≡ refusal_number why → IswPromise status before before
+    pub isw_refused : (why : Refusal) (status : ℕ) → answer ≡ Err why → status ≡ refusal_number why → IswPromise status before before
     isw_refused why status e s =
         let number = positive why in (
-          lent-refused _ _ _ _ _ (ap (λ (a : IswAnswer). isw_told a held) (sym e) ∙ told) s,
+          lent-refused _ _ _ _ _ (ap (λ (a : Result ℕ Refusal). isw_told a held) (sym e) ∙ told) s,
           (
             λ no. (refl, says.kept why e),
             record { written = λ zero. absurd (omega arith); spelled = λ zero. absurd (omega arith); reads = λ zero. absurd (omega arith); enough = λ no. says.enough why e },

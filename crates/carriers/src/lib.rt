@@ -1,8 +1,9 @@
 // Which wires carry which mask: what a directed search looks up at each node. These functions ask what the entries have tested.
 #![tactic(auto)]
 
-ghost use Rattle.std.specs.Prelude.{◌≡◌, cond, suc, ◌≤◌, ◌<◌, replicate};
+ghost use Rattle.std.specs.Prelude.{◌≡◌, true, cond, suc, ◌≤◌, ◌<◌, replicate};
 ghost use Rattle.limits.specs.Limits.{max_masks, max_wires};
+ghost use Rattle.wires.specs.Wires.{masked};
 ghost use Rattle.records.specs.Layout.{wire_count, terms_of};
 ghost use Rattle.carriers.specs.Carriers.{carries, highest_at, carrier_count, Carriers};
 
@@ -18,6 +19,14 @@ pub fn has_mask(sum: Sum, mask: usize) -> bool
     ensures { result ≡ (terms_of sum).mask mask }
 {
     (sum.masks >> mask) % 2 == 1
+}
+
+// The lowest mask of a sum.
+pub fn lowest_mask(sum: Sum) -> usize
+    requires { masked max_masks (terms_of sum) ≡ true }
+    ensures { (result < max_masks) × ((terms_of sum).mask result ≡ true) }
+{
+    sum.masks.trailing_zeros() as usize
 }
 
 // The highest carrier of a mask with one wire more: that wire where it carries the mask, else what it was before.
@@ -48,29 +57,21 @@ pub fn fill(table: &[u8], highest: &mut [u16; CARRIERS])
     ensures { Carriers table.now highest.new }
 {
     let wires = table.len() / RECORD_BYTES;
-    let mut place = 0;
-    while place < MAX_MASKS * wires {
+    for place in 0..MAX_MASKS * wires {
         highest[place + MAX_MASKS] = highest_with(
             table,
             place / MAX_MASKS,
             place % MAX_MASKS,
             highest[place],
         );
-        place += 1;
     }
 }
 
-// A wire's number as an index.
-fn wide(wire: u16) -> usize
-    ensures { result ≡ wire }
-{
-    wire as usize
-}
-
 // The highest of the wires below a limit that carries a mask, counted from 1, or 0.
+// kept: counted from 1 it is the next limit, and at 0 no wire is left: no case of its own is needed for none
 pub fn highest_below(carriers: &[u16; CARRIERS], mask: usize, limit: usize) -> usize
     requires { (mask < max_masks) × (limit ≤ max_wires) }
     ensures { result ≡ highest_at carriers.now mask limit }
 {
-    wide(carriers[MAX_MASKS * limit + mask])
+    usize::from(carriers[MAX_MASKS * limit + mask])
 }

@@ -19,6 +19,7 @@ use revolving::rank;
 use shares::ones::WORDS;
 
 // The marks of a wire: it may still be chosen, it may not, it is.
+// kept: settle and descend take marks of any byte, which docs/PROMISES.md promises; a narrower type would ask more of callers
 pub const OPEN: u8 = 0;
 
 pub const CLOSED: u8 = 1;
@@ -31,11 +32,8 @@ fn gather(marks: &[u8; MAX_WIRES], wires: usize, set: &mut [u16])
     ensures { take (length (members wires (is_chosen marks.now))) set.new ≡ members wires (is_chosen marks.now) }
 {
     let mut size = 0;
-    let mut next = 0;
-    while next < wires {
-        let wire = next;
-        next += 1;
-        if marks[wire] == CHOSEN {
+    for (wire, mark) in marks[0..wires].iter().enumerate() {
+        if *mark == CHOSEN {
             set[size] = wire as u16;
             size += 1;
         }

@@ -8,14 +8,10 @@ pub fn start(text: &[u8], at: usize) -> usize
     requires { at ≤ length text.now }
     ensures { result ≤ at }
 {
-    let mut start = at;
-    while start > 0 {
-        if text[start - 1] == LINE_END {
-            return start;
-        }
-        start -= 1;
+    match text[..at].iter().rposition(|byte| *byte == LINE_END) {
+        Some(last) => last + 1,
+        None => 0,
     }
-    start
 }
 
 // Where the line ends: at the first line end from the place on, or where the text does.
@@ -24,14 +20,10 @@ pub fn end(text: &[u8], at: usize) -> usize
     ensures lower_bound { at ≤ result }
     ensures upper_bound { result ≤ length text.now }
 {
-    let mut end = at;
-    while end < text.len() {
-        if text[end] == LINE_END {
-            return end;
-        }
-        end += 1;
+    match text[at..].iter().position(|byte| *byte == LINE_END) {
+        Some(length) => at + length,
+        None => text.len(),
     }
-    end
 }
 
 // Where the next line starts, or the text ends.
@@ -40,30 +32,13 @@ pub fn next(text: &[u8], at: usize) -> usize
     ensures lower_bound { at ≤ result }
     ensures upper_bound { result ≤ length text.now }
 {
-    let end = end(text, at);
-    if end < text.len() {
-        return end + 1;
-    }
-    end
+    text.len().min(end(text, at) + 1)
 }
 
 // The number of the line, from 1.
 pub fn number(text: &[u8], at: usize) -> u64
     requires { at ≤ length text.now }
 {
-    let mut number: usize = 1;
-    for i in 0..at {
-        number += ends(text[i]);
-    }
-    number as u64
-}
-
-// How many lines a byte ends.
-fn ends(byte: u8) -> usize
-    ensures { result ≤ 1 }
-{
-    if byte == LINE_END {
-        return 1;
-    }
-    0
+    let ends = text[..at].iter().filter(|byte| **byte == LINE_END).count();
+    ends as u64 + 1
 }

@@ -2,7 +2,7 @@
 ghost use Rattle.std.specs.Prelude.{◌≤◌, ◌+◌, length};
 
 use crate::lines;
-use crate::saying::{say, say_number};
+use crate::saying::{note, say};
 use description::{MAX_TEXT_BYTES, Refusal};
 use limits::{MAX_MASKS, MAX_ORDER, MAX_WIRES};
 use output_lines::MAX_DEPTH;
@@ -14,13 +14,11 @@ const SHOWN_FROM: usize = 36;
 
 const SHOWN: usize = SHOWN_BEFORE + SHOWN_FROM;
 
-// The columns before the mark: the indent, two dots, what is shown.
+// The columns before what is shown.
 const INDENT: usize = 4;
 
-const MARK_COLUMNS: usize = INDENT + 2 + SHOWN_BEFORE;
-
 // The highest number of a mask.
-const LAST_MASK: u64 = (MAX_MASKS - 1) as u64;
+const LAST_MASK: usize = MAX_MASKS - 1;
 
 // What the program says begins with its name; what it shows of the text does not.
 pub fn explain(notes: &impl Print, program: &[u8], text: &[u8], why: Refusal, offset: usize) {
@@ -30,12 +28,14 @@ pub fn explain(notes: &impl Print, program: &[u8], text: &[u8], why: Refusal, of
     }
     let start = lines::start(text, offset);
     let end = lines::end(text, offset);
+    let number = lines::number(text, offset);
     say(notes, program);
-    say_number(notes, b": line ", lines::number(text, offset));
-    say_number(notes, b", byte ", (offset - start) as u64 + 1);
-    say(notes, b": ");
+    note(
+        notes,
+        format_args!(": line {number}, byte {}: ", offset - start + 1),
+    );
     say_meaning(notes, text, why, offset);
-    say(notes, b"\n");
+    note(notes, "\n");
     if start < end {
         show_line(notes, program, text, start, end, offset);
     }
@@ -44,47 +44,50 @@ pub fn explain(notes: &impl Print, program: &[u8], text: &[u8], why: Refusal, of
 fn say_meaning(notes: &impl Print, text: &[u8], why: Refusal, offset: usize) {
     match why {
         Refusal::TextTooLong => {
-            say_number(notes, b"the text is longer than ", MAX_TEXT_BYTES as u64);
-            say(notes, b" bytes");
+            note(
+                notes,
+                format_args!("the text is longer than {MAX_TEXT_BYTES} bytes"),
+            );
         }
         Refusal::WrongOrderLine => {
-            say_number(
+            note(
                 notes,
-                b"the first line has to be \"ORDER = \" and one digit from 1 to ",
-                MAX_ORDER as u64,
+                format_args!(
+                    "the first line has to be \"ORDER = \" and one digit from 1 to {MAX_ORDER}, and nothing else"
+                ),
             );
-            say(notes, b", and nothing else");
         }
         Refusal::WrongMasksLine => {
-            say_number(
+            note(
                 notes,
-                b"the second line has to be as \"MASKS = []\" or \"MASKS = [r0, r1]\", masks from r0 to r",
-                LAST_MASK,
+                format_args!(
+                    "the second line has to be as \"MASKS = []\" or \"MASKS = [r0, r1]\", masks from r0 to r{LAST_MASK}, none twice, and nothing else"
+                ),
             );
-            say(notes, b", none twice, and nothing else");
         }
         Refusal::NoSuchSymbol => {
-            say_number(
+            note(
                 notes,
-                b"no such symbol: products are as s01, shares as a0 and b0, masks as r0 (to r",
-                LAST_MASK,
-            );
-            say(
-                notes,
-                b"), share numbers up to the order; there are no operators and no comments",
+                format_args!(
+                    "no such symbol: products are as s01, shares as a0 and b0, masks as r0 (to r{LAST_MASK}), share numbers up to the order; there are no operators and no comments"
+                ),
             );
         }
-        Refusal::MaskNotDeclared => say(notes, b"this mask is not named in the second line"),
+        Refusal::MaskNotDeclared => note(notes, "this mask is not named in the second line"),
         Refusal::WrongParenthesis => say_parenthesis(notes, text, offset),
-        Refusal::Bar => say(notes, b"a bar: registers can not be described yet"),
+        Refusal::Bar => note(notes, "a bar: registers can not be described yet"),
         Refusal::NestedTooDeep => {
-            say_number(notes, b"a parenthesis is opened inside ", MAX_DEPTH as u64);
-            say(notes, b" others");
+            note(
+                notes,
+                format_args!("a parenthesis is opened inside {MAX_DEPTH} others"),
+            );
         }
         Refusal::WrongLineCount => say_lines(notes, text, offset),
         Refusal::TooManyWires => {
-            say_number(notes, b"the gadget has more than ", MAX_WIRES as u64);
-            say(notes, b" wires");
+            note(
+                notes,
+                format_args!("the gadget has more than {MAX_WIRES} wires"),
+            );
         }
     }
 }
@@ -92,29 +95,31 @@ fn say_meaning(notes: &impl Print, text: &[u8], why: Refusal, offset: usize) {
 // One number for a parenthesis that is closed and for one that is not: the byte tells.
 fn say_parenthesis(notes: &impl Print, text: &[u8], offset: usize) {
     if offset < text.len() && text[offset] == b')' {
-        say(
+        note(
             notes,
-            b"a parenthesis is closed that was not opened, or that has nothing inside",
+            "a parenthesis is closed that was not opened, or that has nothing inside",
         );
     } else {
-        say(notes, b"a parenthesis is still open where the line ends");
+        note(notes, "a parenthesis is still open where the line ends");
     }
 }
 
 // One number for a line too many and for too few: only these are at the text's end.
 fn say_lines(notes: &impl Print, text: &[u8], offset: usize) {
-    if offset < text.len() {
-        say(notes, b"a line too many");
+    let count = if offset < text.len() {
+        "a line too many"
     } else {
-        say(notes, b"too few lines");
-    }
-    say(
+        "too few lines"
+    };
+    note(
         notes,
-        b": each share has one output line, and shares are one more than the order",
+        format_args!(
+            "{count}: each share has one output line, and shares are one more than the order"
+        ),
     );
 }
 
-// What the line has around the byte, and a mark under it.
+// What the line has around the byte, and a mark under it. Two dots say that something is left out.
 fn show_line(
     notes: &impl Print,
     program: &[u8],
@@ -127,17 +132,17 @@ fn show_line(
 {
     let from = shown_from(start, offset);
     let to = shown_to(end, offset);
-    say(notes, b"    ");
-    let dots = say_dots(notes, start < from);
+    let before = dots(start < from);
+    note(notes, format_args!("    {before}"));
     show_bytes(notes, &text[from..to]);
-    say_dots(notes, to < end);
-    say(notes, b"\n");
-    say_mark(notes, INDENT + dots + (offset - from));
-    if !all_print(&text[from..to]) {
+    note(notes, format_args!("{}\n", dots(to < end)));
+    let column = INDENT + before.len() + (offset - from);
+    note(notes, format_args!("{:column$}^\n", ""));
+    if !text[from..to].iter().all(|byte| prints(*byte)) {
         say(notes, program);
-        say(
+        note(
             notes,
-            b": ? stands for a byte that is no printing ASCII character: a tab is no space here, and byte 13 (carriage return) no line end\n",
+            ": ? stands for a byte that is no printing ASCII character: a tab is no space here, and byte 13 (carriage return) no line end\n",
         );
     }
 }
@@ -146,69 +151,35 @@ fn shown_from(start: usize, offset: usize) -> usize
     requires { start ≤ offset }
     ensures { (start ≤ result) × ((result ≤ offset) × (offset ≤ result + 36)) }
 {
-    if offset - start <= SHOWN_BEFORE {
-        return start;
-    }
-    offset - SHOWN_BEFORE
+    start.max(offset.saturating_sub(SHOWN_BEFORE))
 }
 
 fn shown_to(end: usize, offset: usize) -> usize
     requires { offset ≤ end }
     ensures { (offset ≤ result) × ((result ≤ end) × (result ≤ offset + 36)) }
 {
-    if end - offset <= SHOWN_FROM {
-        return end;
-    }
-    offset + SHOWN_FROM
+    end.min(offset.saturating_add(SHOWN_FROM))
 }
 
-// Says by two dots that something is left out, and tells how many columns they took.
-fn say_dots(notes: &impl Print, is_cut: bool) -> usize
-    ensures { result ≤ 2 }
+fn dots(is_cut: bool) -> &'static str
+    ensures { length result.now ≤ 2 }
 {
-    if is_cut {
-        say(notes, b"..");
-        return 2;
-    }
-    0
-}
-
-fn show_bytes(notes: &impl Print, bytes: &[u8])
-    requires { length bytes.now ≤ 72 }
-{
-    let mut shown = [0u8; SHOWN];
-    for i in 0..bytes.len() {
-        shown[i] = shown_byte(bytes[i]);
-    }
-    let length = bytes.len();
-    say(notes, &shown[0..length]);
+    if is_cut { ".." } else { "" }
 }
 
 // A question mark stands for a byte that does not print.
-fn shown_byte(byte: u8) -> u8 {
-    if prints(byte) {
-        return byte;
-    }
-    b'?'
-}
-
-fn all_print(bytes: &[u8]) -> bool {
-    for i in 0..bytes.len() {
-        if !prints(bytes[i]) {
-            return false;
+fn show_bytes(notes: &impl Print, bytes: &[u8])
+    requires { length bytes.now ≤ 72 }
+{
+    let mut shown = [b'?'; SHOWN];
+    for (place, byte) in shown.iter_mut().zip(bytes) {
+        if prints(*byte) {
+            *place = *byte;
         }
     }
-    true
+    say(notes, &shown[..bytes.len()]);
 }
 
 fn prints(byte: u8) -> bool {
-    b' ' <= byte && byte <= b'~'
-}
-
-fn say_mark(notes: &impl Print, column: usize)
-    requires { column ≤ 42 }
-{
-    let line = [b' '; MARK_COLUMNS];
-    say(notes, &line[0..column]);
-    say(notes, b"^\n");
+    matches!(byte, b' '..=b'~')
 }

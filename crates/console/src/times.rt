@@ -21,13 +21,11 @@ const YEAR: u64 = 31_536_000;
 
 // The sets of both notions, NI and SNI, each of which looks at so many; where 64 bits do not hold it, the most that they hold.
 pub fn sets_of_both(sets: u64) -> u64 {
-    if u64::MAX / 2 < sets {
-        return u64::MAX;
-    }
-    2 * sets
+    sets.saturating_mul(2)
 }
 
 // A time in the largest unit of which there are two.
+// kept: its clause bounds what is written to a page, and a Display would have no page
 pub fn write_time(page: &mut [u8], at: usize, seconds: u64) -> usize
     requires { at + time_bytes ≤ length page.old }
     ensures { result ≤ at + time_bytes }

@@ -5,7 +5,8 @@
 use Prim.Native.Nat.{ℕ, ◌+◌, ◌-◌, ◌≤◌, ◌<◌}
 use native.Mathlib.Nat.{not-suc-le-zero}
 use native.Mathlib.Omega.{arith}
-use mathlib.Core.Path.{◌≡◌, refl, sym, ◌∙◌, ap, subst}
+use Rattle.std.specs.Prelude.{Some, None}
+use mathlib.Core.Path.{◌≡◌, sym, ◌∙◌, ap, subst}
 use mathlib.Core.Logic.{◌⊎◌, inl, inr}
 use mathlib.Core.Bool.{Bool, true, false, cond, not, true≢false}
 use mathlib.Core.List.{List}
@@ -102,21 +103,15 @@ module _ (reports : List ℕ) (wires : ℕ) where
       at k i low (inr less) = c.whole k i low less
 
   pub found-uncovered : (order size all rank : ℕ) → Covered size → 1 ≤ size → size ≤ order → all ≡ binom wires size → Reach reports size all rank
-      → rank < all → PlaceIs (binom wires) uncovered order (record { size = size; rank = rank })
+      → rank < all → PlaceIs (binom wires) uncovered order (Some (record { size = size; rank = rank }))
   found-uncovered order size all rank c low high e r h = record {
-    none = λ z. let w : ⊥ = omega (arith, z, low) in absurd w;
-    first = λ some. record {
-      low = low;
-      high = high;
-      counted = omega (arith, h, e);
-      here = ap not (r.ends h);
-      smaller = c.whole;
-      before = λ i l. shown (covered reports size i) (r.before i l);
-    };
+    low = low;
+    high = high;
+    counted = omega (arith, h, e);
+    here = ap not (r.ends h);
+    smaller = c.whole;
+    before = λ i l. shown (covered reports size i) (r.before i l);
   }
 
-  pub none-uncovered : (order size : ℕ) → Covered size → order < size → PlaceIs (binom wires) uncovered order (record { size = 0; rank = 0 })
-  none-uncovered order size c h = record {
-    none = λ z. record { nowhere = λ k rank low high. c.whole k rank low (omega (arith, high, h)) };
-    first = λ some. absurd (some refl);
-  }
+  pub none-uncovered : (order size : ℕ) → Covered size → order < size → PlaceIs (binom wires) uncovered order None
+  none-uncovered order size c h = record { nowhere = λ k rank low high. c.whole k rank low (omega (arith, high, h)) }

@@ -11,7 +11,7 @@ ghost use Rattle.extents.specs.Extents.{Onward};
 ghost use Rattle.coverage.specs.Coverage.{Reach};
 
 use counts::count;
-use extents::{WINDOW, extended, note, through};
+use extents::{NONE_AHEAD, WINDOW, extended, note, through};
 use filed_reports::{Place, REPORT_BYTES};
 use limits::COUNTS;
 
@@ -32,15 +32,12 @@ fn pass_over(reports: &[u8], size: usize, from: u64, backward: bool) -> u64
     ensures from_value { result ≡ from → covered reports.now size from ≡ false }
 {
     let count = reports.len() / REPORT_BYTES;
-    let mut starts = [u64::MAX; WINDOW];
-    let mut ahead = [0usize; WINDOW];
+    let mut ahead = [NONE_AHEAD; WINDOW];
     let mut reach = from;
-    let mut turn = 0;
-    while turn < count {
+    for turn in 0..count {
         let i = next_report(count, turn, backward);
-        note(reports, i, size, reach, &mut starts, &mut ahead);
+        note(reports, i, size, reach, &mut ahead);
         reach = extended(reports, i, size, reach);
-        turn += 1;
     }
     through(reports, size, reach, &ahead)
 }
@@ -63,8 +60,13 @@ pub fn covered_up_to(reports: &[u8], size: usize, all: u64) -> u64
     reach
 }
 
-// The first size, from 1 to the order, and rank that no report covers.
-pub fn first_uncovered(reports: &[u8], counts: &[u64; COUNTS], wires: usize, order: usize) -> Place
+// The first size, from 1 to the order, and rank that no report covers, if there is one.
+pub fn first_uncovered(
+    reports: &[u8],
+    counts: &[u64; COUNTS],
+    wires: usize,
+    order: usize,
+) -> Option<Place>
     requires counts { Counts counts.now }
     requires wires_le_max_wires { (wires ≤ max_wires) × (order ≤ max_size) }
     ensures { PlaceIs (binom wires) (λ size rank. not (covered reports.now size rank)) order result }
@@ -73,8 +75,8 @@ pub fn first_uncovered(reports: &[u8], counts: &[u64; COUNTS], wires: usize, ord
         let all = count(counts, wires, size);
         let rank = covered_up_to(reports, size, all);
         if rank < all {
-            return Place { size, rank };
+            return Some(Place { size, rank });
         }
     }
-    Place { size: 0, rank: 0 }
+    None
 }

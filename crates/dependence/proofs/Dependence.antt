@@ -1,6 +1,6 @@
 -- The answers on a set's dependence, path by path. Where a test refuses, the number is told; else the counts of the set.
 --     DependencePromise            the whole of the entry's promise
---     refused-first, set_too_large, not-rising, set-counted     the entry's answers
+--     set_too_large, not-rising, set-counted     the entry's answers
 --     rising_inside                a set that passes the test is inside the table
 use Prim.Native.Nat.{ℕ, ◌≤◌, ◌<◌}
 use mathlib.Core.Path.{◌≡◌, refl, sym, ◌∙◌, ap}
@@ -9,6 +9,7 @@ use mathlib.Core.List.{List, [], ◌∷◌, map}
 use borrow.Author.Tests.{lt-ltb, le-ltb}
 use lib.Dec.{ltb}
 use lib.ListN.{length}
+use Rattle.std.specs.Prelude.{Result, Ok, Err}
 use Rattle.limits.specs.Limits.{max_shares, max_masks, max_size}
 use Rattle.basics.specs.Folds.{one_if}
 use Rattle.basics.specs.Told.{Told, values, refusal}
@@ -22,15 +23,14 @@ use Rattle.revolving.proofs.Rising.{parts-is_set}
 use Rattle.running.proofs.Inside.{is-set-inside}
 use Rattle.verdict_answers.specs.declared.Refusal.{Refusal}
 use Rattle.verdict_answers.specs.declared.Refusal.TheVariants.{SizeTooLarge, NotASet}
-use Rattle.verdict_answers.specs.declared.DependenceAnswer.{DependenceAnswer}
-use Rattle.verdict_answers.specs.Answers.{refusal_number, dependence_told, notion_of, depended, set_dependence}
+use Rattle.verdict_answers.specs.declared.DependsOn.{DependsOn}
+use Rattle.verdict_answers.specs.Answers.{dependence_told, notion_of, depended, set_dependence}
 use Rattle.verdict_answers.specs.Dependence.{DependenceMeans}
 use Rattle.verdict_answers.proofs.Dependence.{means}
-use Rattle.opening.specs.declared.Opened.{Opened}
 use Rattle.opening.specs.Opening.{opened_told, opens}
-use Rattle.opening.proofs.Admitting.{opened_for, opened-answer, opened-refusal}
+use Rattle.opening.proofs.Admitting.{opened_for, opened-answer}
 
-abbrev pub DependencePromise : DependenceAnswer → List ℕ → ℕ → ℕ → ℕ → List ℕ → Type 0
+abbrev pub DependencePromise : Result DependsOn Refusal → List ℕ → ℕ → ℕ → ℕ → List ℕ → Type 0
 DependencePromise answer table shares masks notion set =
     (dependence_told answer ≡ set_dependence table shares masks notion set) × DependenceMeans answer table shares masks notion set
 
@@ -44,36 +44,31 @@ module _ (table : List ℕ) (shares masks notion : ℕ) (set : List ℕ) where
       (cond (not (rising set && below (wire_count table) set)) (refusal 21)
       (depended (notion_of notion) shares masks (map (wire_at table) set)))
 
-  promised : (answer : DependenceAnswer) → dependence_told answer ≡ set_dependence table shares masks notion set
+  promised : (answer : Result DependsOn Refusal) → dependence_told answer ≡ set_dependence table shares masks notion set
       → DependencePromise answer table shares masks notion set
   promised answer e = (e, means table shares masks notion set answer e)
 
-  pub refused-first : (why : Refusal) → opened_told (Opened.Refused why) ≡ opens table shares masks notion
-      → DependencePromise (DependenceAnswer.Refused why) table shares masks notion set
-  refused-first why e =
-      promised (DependenceAnswer.Refused why) (sym (opened-refusal table shares masks notion refusal own_answer (refusal_number why) e))
-
-  module _ (kind : Notion) (told : opened_told (Opened.For kind) ≡ opens table shares masks notion) where
+  module _ (kind : Notion) (told : opened_told (Ok kind) ≡ opens table shares masks notion) where
     own : set_dependence table shares masks notion set ≡ own_answer
     own =
         let o = opened_for table shares masks notion kind told in
         opened-answer table shares masks notion refusal own_answer o.sound o.known
 
-    pub set_too_large : max_size < length set → DependencePromise (DependenceAnswer.Refused SizeTooLarge) table shares masks notion set
-    set_too_large h = promised (DependenceAnswer.Refused SizeTooLarge) (sym (own ∙ simp (lt-ltb max_size (length set) h)))
+    pub set_too_large : max_size < length set → DependencePromise (Err SizeTooLarge) table shares masks notion set
+    set_too_large h = promised (Err SizeTooLarge) (sym (own ∙ simp (lt-ltb max_size (length set) h)))
 
     module _ (small : length set ≤ max_size) where
       pub not-rising : (rising set && below (wire_count table) set) ≡ false
-          → DependencePromise (DependenceAnswer.Refused NotASet) table shares masks notion set
-      not-rising e = promised (DependenceAnswer.Refused NotASet) (sym (own ∙ simp (le-ltb max_size (length set) small, e)))
+          → DependencePromise (Err NotASet) table shares masks notion set
+      not-rising e = promised (Err NotASet) (sym (own ∙ simp (le-ltb max_size (length set) small, e)))
 
       -- the counts over all bits of a record are those over the gadget's own
       pub set-counted : (rising set && below (wire_count table) set) ≡ true → (t : Terms) → t ≡ total (map (wire_at table) set)
           → (of_a of_b most : ℕ) (left : Bool) → of_a ≡ count_a max_shares t → of_b ≡ count_b max_shares t → most ≡ allowed kind (map (wire_at table) set)
           → left ≡ masked max_masks t
-          → DependencePromise (DependenceAnswer.Depends of_a of_b most left) table shares masks notion set
+          → DependencePromise (Ok (record { of_a = of_a; of_b = of_b; allowed = most; masked = left })) table shares masks notion set
       set-counted e t sum of_a of_b most left a b k m =
-          promised (DependenceAnswer.Depends of_a of_b most left)
+          promised (Ok (record { of_a = of_a; of_b = of_b; allowed = most; masked = left }))
           (ap (λ (i : ℕ). values (i ∷ of_b ∷ most ∷ one_if left ∷ [])) (a ∙ ap (count_a max_shares) sum ∙ narrow.0)
           ∙ ap (λ (i : ℕ). values (count_a shares s ∷ i ∷ most ∷ one_if left ∷ [])) (b ∙ ap (count_b max_shares) sum ∙ narrow.1)
           ∙ ap (λ (i : ℕ). values (count_a shares s ∷ count_b shares s ∷ i ∷ one_if left ∷ []))

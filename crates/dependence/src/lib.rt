@@ -8,11 +8,11 @@ ghost use Rattle.verdict_answers.specs.Dependence.{DependenceMeans};
 
 use breaking::{is_masked, payers};
 use limits::{MAX_SIZE, RECORD_BYTES};
-use opening::{Opened, opening};
+use opening::opening;
 use records::sums::sum_of_set;
 use revolving::is_rising;
 use shares::dependence;
-use verdict_answers::{DependenceAnswer, Refusal};
+use verdict_answers::{DependsOn, Refusal};
 
 // On how much a set of wires depends. An operand leaks by a set without masks where its count is above what the notion allows.
 pub fn set_dependence(
@@ -21,28 +21,23 @@ pub fn set_dependence(
     masks: usize,
     notion: usize,
     set: &[u16],
-) -> DependenceAnswer
+) -> Result<DependsOn, Refusal>
     ensures result_value { dependence_told result ≡ set_dependence table.now shares masks notion set.now }
     ensures dependence_means { DependenceMeans result table.now shares masks notion set.now }
 {
-    let opened = opening(table, shares, masks, notion);
-    match opened {
-        Opened::Refused(why) => DependenceAnswer::Refused(why),
-        Opened::For(kind) => {
-            if MAX_SIZE < set.len() {
-                return DependenceAnswer::Refused(Refusal::SizeTooLarge);
-            }
-            if !is_rising(table.len() / RECORD_BYTES, set) {
-                return DependenceAnswer::Refused(Refusal::NotASet);
-            }
-            let sum = sum_of_set(table, set);
-            let on = dependence(sum);
-            DependenceAnswer::Depends {
-                of_a: on.of_a,
-                of_b: on.of_b,
-                allowed: payers(table, kind, set),
-                masked: is_masked(sum),
-            }
-        }
+    let kind = opening(table, shares, masks, notion)?;
+    if MAX_SIZE < set.len() {
+        return Err(Refusal::SizeTooLarge);
     }
+    if !is_rising(table.len() / RECORD_BYTES, set) {
+        return Err(Refusal::NotASet);
+    }
+    let sum = sum_of_set(table, set);
+    let on = dependence(sum);
+    Ok(DependsOn {
+        of_a: on.of_a,
+        of_b: on.of_b,
+        allowed: payers(table, kind, set),
+        masked: is_masked(sum),
+    })
 }

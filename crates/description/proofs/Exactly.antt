@@ -3,6 +3,7 @@
 --     spelled-read    what spells a description within the limits is read, into its order, mask count and wires
 --     read-spelled    what is read spells such a description
 --     spelled-limits  and the one description that it spells is within the limits
+use Rattle.std.specs.Prelude.{Option, Some, None}
 use Prim.Native.Nat.{ℕ, ◌+◌, ◌≤◌}
 use native.Mathlib.Omega.{arith}
 use mathlib.Core.Path.{◌≡◌, refl, sym, ◌∙◌, ap, ap₂, subst}
@@ -16,8 +17,6 @@ use Rattle.description.specs.Run.{read, turned_down, reading, listed, after_mask
 use Rattle.description.specs.Grammar.{Description, Spells, Limits, Lines, wires_of, mask_count, header_text}
 use Rattle.description.specs.declared.Listed.{Listed}
 use Rattle.description.specs.declared.Masks.{Masks}
-use Rattle.description.specs.declared.OrderLine.{OrderLine}
-use Rattle.description.specs.declared.MasksLine.{MasksLine}
 use Rattle.description.specs.declared.Refusal.TheVariants.{TextTooLong}
 use Rattle.description.proofs.HeaderLines.{HeaderRead, header_read, header-spelled}
 use Rattle.description.proofs.Outputs.{lines-run}
@@ -74,16 +73,16 @@ read-spelled text order masks ws e = by_length (ltb max_text (length text)) refl
         })
         (record { short = short; line-count = ls.count; shallow = ls.shallow; all_known = ls.allowed })
 
-    by_masks : length text ≤ max_text → (n : ℕ) → order_line text ≡ OrderLine.Order n → (line : MasksLine) → masks_line second_at (drop second_at text) ≡ line
+    by_masks : length text ≤ max_text → (n : ℕ) → order_line text ≡ Some n → (line : Option Masks) → masks_line second_at (drop second_at text) ≡ line
         → after_masks text n line ≡ read order masks ws → SpelledBy text order masks ws
-    by_masks short n h MasksLine.Wrong f g = let z : ◌≡◌ {A = ℕ} 0 1 = cc in absurd (omega (arith, z))
-    by_masks short n h (MasksLine.Declared m) f g =
+    by_masks short n h None f g = let z : ◌≡◌ {A = ℕ} 0 1 = cc in absurd (omega (arith, z))
+    by_masks short n h (Some m) f g =
         by_run short n m (run_at (n + 1) m.declared text m.end start) (header-spelled text n m h f) refl g
 
-    by_order : length text ≤ max_text → (line : OrderLine) → order_line text ≡ line → after_order text line ≡ read order masks ws
+    by_order : length text ≤ max_text → (line : Option ℕ) → order_line text ≡ line → after_order text line ≡ read order masks ws
         → SpelledBy text order masks ws
-    by_order short OrderLine.Wrong f g = let z : ◌≡◌ {A = ℕ} 0 1 = cc in absurd (omega (arith, z))
-    by_order short (OrderLine.Order n) f g = by_masks short n f (masks_line second_at (drop second_at text)) refl g
+    by_order short None f g = let z : ◌≡◌ {A = ℕ} 0 1 = cc in absurd (omega (arith, z))
+    by_order short (Some n) f g = by_masks short n f (masks_line second_at (drop second_at text)) refl g
 
     by_length : (long : Bool) → ltb max_text (length text) ≡ long
         → cond long (turned_down TextTooLong max_text) (after_order text (order_line text)) ≡ read order masks ws → SpelledBy text order masks ws

@@ -1,5 +1,6 @@
 -- Where the run over the output lines is done, the text spells output lines within the limits.
 --     run-lines    where the run is done, there are such lines
+use Rattle.std.specs.Prelude.{Result, Ok, Err}
 use Prim.Native.Nat.{ℕ, zero, suc, ◌+◌, ◌≤◌, ◌<◌}
 use native.Mathlib.Omega.{arith}
 use native.Mathlib.Decide.{dec_lt}
@@ -15,13 +16,14 @@ use Rattle.description.specs.Bytes.{space, opening, closing, parts, word}
 use Rattle.description.specs.Symbols.{spelling, symbol_length, symbol_read}
 use Rattle.description.specs.Run.{State, Around, done, run_at, max_depth, start, placed, took, opened, closed, symbol_item, group_item}
 use Rattle.description.specs.Grammar.{Bytes, empty}
-use Rattle.description.specs.declared.SymbolAnswer.{SymbolAnswer}
+use Rattle.wires.specs.declared.Symbol.{Symbol}
+use Rattle.description.specs.declared.SymbolFault.{SymbolFault}
 use Rattle.description.proofs.Spelling.{Declares, read_known, known-formed, spelling-length}
 use Rattle.description.proofs.Places.{at_byte, rest-bytes, word-rest, word_after}
 use Rattle.description.proofs.Steps.{Kind, is-space, is-line-end, is-other, kind_of_lem}
 use Rattle.description.proofs.Steps.{Other, is-opening, is-bar, is-closing, is-joined, other_of}
 use Rattle.description.proofs.Passing.{at_space, at_over, at_opening, at_closing, at_bar, at_symbol}
-use Rattle.description.proofs.Passing.{too_deep, nothing-inside, not_open, no_such, not_declared}
+use Rattle.description.proofs.Passing.{too_deep, nothing-inside, not_open, at_fault}
 use Rattle.description.proofs.After.{put_filled}
 use Rattle.description.proofs.Following.{symbol_long, symbol-inside}
 use Rattle.description.proofs.Ends.{Sound, From, Later, turned_down_lem, at_end, at_line}
@@ -85,10 +87,9 @@ module _ (text : List ℕ) (shares declared : ℕ) (names : List ℕ) (few : sha
       found-symbol : parts byte ≡ false → From text shares names p s
       found-symbol joined = by (symbol_read shares declared (word (drop p text))) refl
         where
-          by : (answer : SymbolAnswer) → symbol_read shares declared (word (drop p text)) ≡ answer → From text shares names p s
-          by SymbolAnswer.NoSuch e = absurd (turned_down_lem run (no_such shares declared text p s inside fewer joined e))
-          by SymbolAnswer.NotDeclared e = absurd (turned_down_lem run (not_declared shares declared text p s inside fewer joined e))
-          by (SymbolAnswer.Known u) e =
+          by : (answer : Result Symbol SymbolFault) → symbol_read shares declared (word (drop p text)) ≡ answer → From text shares names p s
+          by (Err fault) e = absurd (turned_down_lem run (at_fault shares declared text p s inside fewer joined fault e))
+          by (Ok u) e =
               let both = read_known shares declared names (word (drop p text)) u few d e in
               let size : length (word (drop p text)) ≡ symbol_length u = ap length both.0 ∙ spelling-length u in
               let long = symbol_long u in

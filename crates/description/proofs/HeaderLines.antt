@@ -4,6 +4,7 @@
 --     HeaderRead         what two header lines that are read give, and that they are spelled so
 --     header-spelled     what is read as the two header lines is spelled so
 --     header_read        the two header lines, as they are spelled, are read
+use Rattle.std.specs.Prelude.{Some, None}
 use Prim.Native.Nat.{ℕ, ◌+◌, ◌-◌, ◌≤◌}
 use native.Mathlib.Omega.{arith}
 use mathlib.Core.Path.{◌≡◌, refl, sym, ◌∙◌, ap, ap₂, subst}
@@ -24,8 +25,6 @@ use Rattle.description.specs.Run.{second_at}
 use Rattle.description.specs.Grammar.{Bytes, joined, further-names, header_text, member, once, mask_count}
 use Rattle.description.specs.Symbols.{max_mask, mask_name}
 use Rattle.description.specs.declared.Masks.{Masks}
-use Rattle.description.specs.declared.OrderLine.{OrderLine}
-use Rattle.description.specs.declared.MasksLine.{MasksLine}
 use Rattle.description.proofs.Places.{same_bytes}
 use Rattle.description.proofs.Numbers.{word_with, count_with_lem, fresh_in_lem, word_bits, fresh-once, count_with}
 use Rattle.description.proofs.Spelling.{Declares}
@@ -38,7 +37,7 @@ line_masks names = masks_of (word_with 0 names) (count_with_lem 0 names) (19 + l
 -- ---- the second line
 
 masks-read : (names rest : List ℕ) → every (λ k. leb k max_mask) names ≡ true → fresh_in_lem 0 names ≡ true → ended rest ≡ true
-    → masks_line second_at (masks_word ++ (joined names ++ (bracket ∷ rest))) ≡ MasksLine.Declared (line_masks names)
+    → masks_line second_at (masks_word ++ (joined names ++ (bracket ∷ rest))) ≡ Some (line_masks names)
 unfolding masks_line
 masks-read [] rest low new e = rw e refl
 masks-read (k ∷ ks) rest low new e =
@@ -54,7 +53,7 @@ record ListSpelled (l : List ℕ) (m : Masks) : Type 0 where
   line-end : ended rest ≡ true
   masks : m ≡ line_masks names
 
-list_spelled : (l : List ℕ) (m : Masks) → cond (bracket_here l) (closed 0 0 19 l) (names_from 0 0 19 0 l) ≡ MasksLine.Declared m → ListSpelled l m
+list_spelled : (l : List ℕ) (m : Masks) → cond (bracket_here l) (closed 0 0 19 l) (names_from 0 0 19 0 l) ≡ Some m → ListSpelled l m
 list_spelled l m e = go (bracket_here l) refl e
   where
     some-names : NamesSpelled 0 0 19 l m → ListSpelled l m
@@ -68,11 +67,11 @@ list_spelled l m e = go (bracket_here l) refl e
       masks = r.masks;
     }
 
-    no_names : (l : List ℕ) → closed 0 0 19 l ≡ MasksLine.Declared m → ListSpelled l m
+    no_names : (l : List ℕ) → closed 0 0 19 l ≡ Some m → ListSpelled l m
     no_names [] e = let z : ◌≡◌ {A = ℕ} 0 1 = cc in absurd (omega (arith, z))
     no_names (c ∷ rest) e = test (eqb c bracket && ended rest) refl e
       where
-        test : (b : Bool) → (eqb c bracket && ended rest) ≡ b → cond b (MasksLine.Declared (masks_of 0 0 20)) MasksLine.Wrong ≡ MasksLine.Declared m
+        test : (b : Bool) → (eqb c bracket && ended rest) ≡ b → cond b (Some (masks_of 0 0 20)) None ≡ Some m
             → ListSpelled (c ∷ rest) m
         test false q e = let z : ◌≡◌ {A = ℕ} 0 1 = cc in absurd (omega (arith, z))
         test true q e = record {
@@ -85,16 +84,16 @@ list_spelled l m e = go (bracket_here l) refl e
           masks = cc;
         }
 
-    go : (b : Bool) → bracket_here l ≡ b → cond b (closed 0 0 19 l) (names_from 0 0 19 0 l) ≡ MasksLine.Declared m → ListSpelled l m
+    go : (b : Bool) → bracket_here l ≡ b → cond b (closed 0 0 19 l) (names_from 0 0 19 0 l) ≡ Some m → ListSpelled l m
     go true q e = no_names l e
     go false q e = some-names (names-spelled l 0 0 19 m e)
 
-masks-spelled : (l : List ℕ) (m : Masks) → masks_line second_at l ≡ MasksLine.Declared m → (t : List ℕ) × (l ≡ masks_word ++ t) × ListSpelled t m
+masks-spelled : (l : List ℕ) (m : Masks) → masks_line second_at l ≡ Some m → (t : List ℕ) × (l ≡ masks_word ++ t) × ListSpelled t m
 unfolding masks_line
 masks-spelled l m e = go (same (take 9 l) masks_word) refl e
   where
     go : (b : Bool) → same (take 9 l) masks_word ≡ b
-        → cond b (cond (bracket_here (drop 9 l)) (closed 0 0 19 (drop 9 l)) (names_from 0 0 19 0 (drop 9 l))) MasksLine.Wrong ≡ MasksLine.Declared m
+        → cond b (cond (bracket_here (drop 9 l)) (closed 0 0 19 (drop 9 l)) (names_from 0 0 19 0 (drop 9 l))) None ≡ Some m
         → (t : List ℕ) × (l ≡ masks_word ++ t) × ListSpelled t m
     go false q e = let z : ◌≡◌ {A = ℕ} 0 1 = cc in absurd (omega (arith, z))
     go true q e =
@@ -109,15 +108,15 @@ pub record FirstLine (text : List ℕ) (order : ℕ) : Type 0 where
   pub spelled : text ≡ order_word ++ (figure order ∷ rest)
   pub line-end : ended rest ≡ true
 
-order-spelled : (text : List ℕ) (order : ℕ) → order_line text ≡ OrderLine.Order order → FirstLine text order
+order-spelled : (text : List ℕ) (order : ℕ) → order_line text ≡ Some order → FirstLine text order
 unfolding order_line
 order-spelled text order e = go (same (take 8 text) order_word) refl e
   where
-    digit-spelled : text ≡ order_word ++ drop 8 text → (l : List ℕ) → drop 8 text ≡ l → order_digit l ≡ OrderLine.Order order → FirstLine text order
+    digit-spelled : text ≡ order_word ++ drop 8 text → (l : List ℕ) → drop 8 text ≡ l → order_digit l ≡ Some order → FirstLine text order
     digit-spelled w [] p e = let z : ◌≡◌ {A = ℕ} 0 1 = cc in absurd (omega (arith, z))
     digit-spelled w (c ∷ l) p e = test (leb (figure 1) c && leb c (figure max_order) && ended l) refl e
       where
-        test : (b : Bool) → (leb (figure 1) c && leb c (figure max_order) && ended l) ≡ b → cond b (OrderLine.Order (c - 48)) OrderLine.Wrong ≡ OrderLine.Order order
+        test : (b : Bool) → (leb (figure 1) c && leb c (figure max_order) && ended l) ≡ b → cond b (Some (c - 48)) None ≡ Some order
             → FirstLine text order
         test false q e = let z : ◌≡◌ {A = ℕ} 0 1 = cc in absurd (omega (arith, z))
         test true q e =
@@ -133,7 +132,7 @@ order-spelled text order e = go (same (take 8 text) order_word) refl e
               line-end = and_right (leb (figure 1) c && leb c (figure max_order)) (ended l) q;
             }
 
-    go : (b : Bool) → same (take 8 text) order_word ≡ b → cond b (order_digit (drop 8 text)) OrderLine.Wrong ≡ OrderLine.Order order
+    go : (b : Bool) → same (take 8 text) order_word ≡ b → cond b (order_digit (drop 8 text)) None ≡ Some order
         → FirstLine text order
     go false q e = let z : ◌≡◌ {A = ℕ} 0 1 = cc in absurd (omega (arith, z))
     go true q e =
@@ -158,15 +157,15 @@ both_lines order names rest =
     ap (λ t. order_word ++ (figure order ∷ line_end ∷ (masks_word ++ t))) (append_assoc (joined names) (bracket ∷ []) rest)
 
 order-read : (order : ℕ) (rest : List ℕ) → 1 ≤ order → order ≤ max_order → ended rest ≡ true
-    → order_line (order_word ++ (figure order ∷ rest)) ≡ OrderLine.Order order
+    → order_line (order_word ++ (figure order ∷ rest)) ≡ Some order
 unfolding order_line
 order-read order rest h l line-end =
     let from = le-leb (figure 1) (figure order) (omega (arith, h)) in
     let to = le-leb (figure order) (figure max_order) (omega (arith, l)) in
     let back : figure order - 48 ≡ order = omega arith in
-    rw (from, to, line-end) (ap OrderLine.Order back)
+    rw (from, to, line-end) (ap Some back)
 
-pub order-exactly : (text : List ℕ) (order : ℕ) → (order_line text ≡ OrderLine.Order order) ↔ FirstLine text order
+pub order-exactly : (text : List ℕ) (order : ℕ) → (order_line text ≡ Some order) ↔ FirstLine text order
 order-exactly text order =
     (order-spelled text order, λ f. ap order_line f.spelled ∙ order-read order f.rest f.digit.0 f.digit.1 f.line-end)
 
@@ -188,8 +187,8 @@ module _ (text : List ℕ) (order : ℕ) (names rest : List ℕ) (digit : (1 ≤
         inside = omega (arith, size, all);
       }
 
-pub header-spelled : (text : List ℕ) (order : ℕ) (m : Masks) → order_line text ≡ OrderLine.Order order
-    → masks_line second_at (drop second_at text) ≡ MasksLine.Declared m → (names : List ℕ) × HeaderRead text order m names
+pub header-spelled : (text : List ℕ) (order : ℕ) (m : Masks) → order_line text ≡ Some order
+    → masks_line second_at (drop second_at text) ≡ Some m → (names : List ℕ) × HeaderRead text order m names
 header-spelled text order m e f = go first.rest refl
   where
     first : FirstLine text order
@@ -218,8 +217,8 @@ header-spelled text order m e f = go first.rest refl
 
 pub header_read : (text : List ℕ) (order : ℕ) (names : List ℕ) → (1 ≤ order) × (order ≤ max_order) → every (λ k. leb k max_mask) names ≡ true → once names ≡ true
     → Bytes text 0 (header_text order names) → ended (drop (length (header_text order names)) text) ≡ true
-    → (order_line text ≡ OrderLine.Order order)
-    × ((m : Masks) × ((masks_line second_at (drop second_at text) ≡ MasksLine.Declared m) × HeaderRead text order m names))
+    → (order_line text ≡ Some order)
+    × ((m : Masks) × ((masks_line second_at (drop second_at text) ≡ Some m) × HeaderRead text order m names))
 header_read text order names digit low alone header header-end =
     let rest : List ℕ = drop (length (header_text order names)) text in
     let whole : text ≡ header_text order names ++ rest = sym (take-append-drop (length (header_text order names)) text) ∙ ap (λ w. w ++ rest) header in

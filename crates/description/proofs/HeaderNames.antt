@@ -3,6 +3,7 @@
 --     masks_with             the masks when names were read
 --     names-read            names, none twice, are read from their spelling
 --     NamesSpelled, names-spelled     what is read as names is spelled so
+use Rattle.std.specs.Prelude.{Option, Some, None}
 use Prim.Native.Nat.{ℕ, zero, suc, ◌+◌, ◌^◌, ◌≤◌, ◌<◌}
 use native.Mathlib.Nat.{not-suc-le-zero}
 use native.Mathlib.Omega.{arith}
@@ -21,10 +22,7 @@ use Rattle.description.specs.Bytes.{space, comma, bracket, ended}
 use Rattle.description.specs.Symbols.{max_mask, name_length, mask_name, mask_at}
 use Rattle.description.specs.Header.{masks_of, closed, larger, parted, NameStep, next, ends, after_name, named_step, name_step, names_from}
 use Rattle.description.specs.Grammar.{further-names}
-use Rattle.description.specs.declared.MaskName.{MaskName}
-use Rattle.description.specs.declared.MaskName.TheVariants.{Number, NoName}
 use Rattle.description.specs.declared.Masks.{Masks}
-use Rattle.description.specs.declared.MasksLine.{MasksLine}
 use Rattle.description.proofs.Numbers.{word_with, count_with_lem, fresh_in_lem}
 use Rattle.description.proofs.Names.{name_length_lem, digit_here, name_read, NameAt, read_name}
 
@@ -48,7 +46,7 @@ module _ (word count at : ℕ) where
       ap (λ (x : NameStep). elim x [ next w n pass ↦ names_from w n (at + 1) pass l | ends line ↦ line ]) e
       ∙ names_passed w n (at + 1) pass l ∙ ap (λ (x : ℕ). names_from w n x 0 (drop pass l)) place
 
-  names-ends : (l : List ℕ) (line : MasksLine) → name_step word count at l ≡ ends line → names_from word count at 0 l ≡ line
+  names-ends : (l : List ℕ) (line : Option Masks) → name_step word count at l ≡ ends line → names_from word count at 0 l ≡ line
   unfolding names_from
   names-ends [] line e = cc
   names-ends (c ∷ l) line e = ap (λ (x : NameStep). elim x [ next w n pass ↦ names_from w n (at + 1) pass l | ends line ↦ line ]) e
@@ -88,19 +86,19 @@ past_comma size l t e =
     ap (λ (x : ℕ). drop x l) two ∙ sym (drop-drop 2 size l) ∙ ap (drop 2) e
 
 closing-step : (word count at size : ℕ) (rest : List ℕ) → ended rest ≡ true
-    → after_name word count at size (bracket ∷ rest) ≡ ends (MasksLine.Declared (masks_of word count (at + size + 1)))
+    → after_name word count at size (bracket ∷ rest) ≡ ends (Some (masks_of word count (at + size + 1)))
 closing-step word count at size [] e = refl
 closing-step word count at size (c ∷ rest) e = rw e refl
 
 pub names-read : (ks : List ℕ) (k word count at : ℕ) (rest : List ℕ) → every (λ k. leb k max_mask) (k ∷ ks) ≡ true → fresh_in_lem word (k ∷ ks) ≡ true
-    → ended rest ≡ true → names_from word count at 0 (names_text k ks rest) ≡ MasksLine.Declared (masks_with word count at k ks)
+    → ended rest ≡ true → names_from word count at 0 (names_text k ks rest) ≡ Some (masks_with word count at k ks)
 names-read [] k word count at rest low new e =
     let first = leb-true k max_mask (and_left (leb k max_mask) true low) in
     let unset = not-true (bit word k) (and_left (not (bit word k)) true new) in
-    names-ends word count at (names_text k [] rest) (MasksLine.Declared (masks_of (bit_xor word (2 ^ k)) (larger count (k + 1)) (at + name_length k + 1)))
+    names-ends word count at (names_text k [] rest) (Some (masks_of (bit_xor word (2 ^ k)) (larger count (k + 1)) (at + name_length k + 1)))
     (name_step_lem word count at k (bracket ∷ rest) first unset refl
     ∙ closing-step (bit_xor word (2 ^ k)) (larger count (k + 1)) at (name_length k) rest e)
-    ∙ ap (λ (x : ℕ). MasksLine.Declared (masks_of (bit_xor word (2 ^ k)) (larger count (k + 1)) (at + x + 1))) (sym (one-length k))
+    ∙ ap (λ (x : ℕ). Some (masks_of (bit_xor word (2 ^ k)) (larger count (k + 1)) (at + x + 1))) (sym (one-length k))
 names-read (n ∷ ks) k word count at rest low new e =
     let w : ℕ = bit_xor word (2 ^ k) in
     let first = leb-true k max_mask (and_left (leb k max_mask) (every (λ k. leb k max_mask) (n ∷ ks)) low) in
@@ -114,7 +112,7 @@ names-read (n ∷ ks) k word count at rest low new e =
     (past_comma (name_length k) (mask_name k ++ tail) ((mask_name n ++ further-names ks) ++ (bracket ∷ rest)) here ∙ parted-names)
     ∙ names-read ks n w (larger count (k + 1)) (at + suc (name_length k + 1)) rest (and_right (leb k max_mask) (every (λ k. leb k max_mask) (n ∷ ks)) low)
     (and_right (not (bit word k)) (fresh_in_lem w (n ∷ ks)) new) e
-    ∙ ap (λ (x : ℕ). MasksLine.Declared (masks_of (word_with word (k ∷ n ∷ ks)) (count_with_lem count (k ∷ n ∷ ks)) x)) place
+    ∙ ap (λ (x : ℕ). Some (masks_of (word_with word (k ∷ n ∷ ks)) (count_with_lem count (k ∷ n ∷ ks)) x)) place
 
 -- ---- what is read as names
 
@@ -137,13 +135,13 @@ module _ (word count at : ℕ) (l : List ℕ) (m : Masks) (k : ℕ) (name : Name
 
   -- the last name
   last-spelled : (t : List ℕ) → drop (name_length k) l ≡ t
-      → closed (bit_xor word (2 ^ k)) (larger count (k + 1)) (at + name_length k) t ≡ MasksLine.Declared m → NamesSpelled word count at l m
+      → closed (bit_xor word (2 ^ k)) (larger count (k + 1)) (at + name_length k) t ≡ Some m → NamesSpelled word count at l m
   last-spelled [] e d = let z : ◌≡◌ {A = ℕ} 0 1 = cc in absurd (omega (arith, z))
   last-spelled (c ∷ rest) e d = go (eqb c bracket && ended rest) refl d
     where
       go : (b : Bool) → (eqb c bracket && ended rest) ≡ b
-          → cond b (MasksLine.Declared (masks_of (bit_xor word (2 ^ k)) (larger count (k + 1)) (at + name_length k + 1))) MasksLine.Wrong
-          ≡ MasksLine.Declared m
+          → cond b (Some (masks_of (bit_xor word (2 ^ k)) (larger count (k + 1)) (at + name_length k + 1))) None
+          ≡ Some m
           → NamesSpelled word count at l m
       go false q d = let z : ◌≡◌ {A = ℕ} 0 1 = cc in absurd (omega (arith, z))
       go true q d =
@@ -193,19 +191,19 @@ parted_by (c ∷ d ∷ s) e =
 
 -- by a bound on the length
 names-within : (size : ℕ) (l : List ℕ) (word count at : ℕ) (m : Masks) → length l < size
-    → names_from word count at 0 l ≡ MasksLine.Declared m → NamesSpelled word count at l m
+    → names_from word count at 0 l ≡ Some m → NamesSpelled word count at l m
 names-within zero l word count at m h e = absurd (not-suc-le-zero h)
 names-within (suc size) l word count at m h e = named (mask_at l) refl (names-within size)
   where
-    wrong : name_step word count at l ≡ ends MasksLine.Wrong → NamesSpelled word count at l m
-    wrong s = let f = names-ends word count at l MasksLine.Wrong s in let z : ◌≡◌ {A = ℕ} 0 1 = cc in absurd (omega (arith, z))
+    wrong : name_step word count at l ≡ ends None → NamesSpelled word count at l m
+    wrong s = let f = names-ends word count at l None s in let z : ◌≡◌ {A = ℕ} 0 1 = cc in absurd (omega (arith, z))
 
-    named : (a : MaskName) → mask_at l ≡ a
-        → ((t : List ℕ) (word count at : ℕ) (m : Masks) → length t < size → names_from word count at 0 t ≡ MasksLine.Declared m
+    named : (a : Option ℕ) → mask_at l ≡ a
+        → ((t : List ℕ) (word count at : ℕ) (m : Masks) → length t < size → names_from word count at 0 t ≡ Some m
         → NamesSpelled word count at t m)
         → NamesSpelled word count at l m
-    named NoName q again = wrong (ap (named_step word count at l) q)
-    named (Number k) q again = set (bit word k) refl
+    named None q again = wrong (ap (named_step word count at l) q)
+    named (Some k) q again = set (bit word k) refl
       where
         w : ℕ
         w = bit_xor word (2 ^ k)
@@ -238,6 +236,6 @@ names-within (suc size) l word count at m h e = named (mask_at l) refl (names-wi
         set true b = wrong (ap (named_step word count at l) q ∙ rw b refl)
         set false b = follows b (ap (named_step word count at l) q ∙ rw b refl) (parted tail) refl
 
-pub names-spelled : (l : List ℕ) (word count at : ℕ) (m : Masks) → names_from word count at 0 l ≡ MasksLine.Declared m
+pub names-spelled : (l : List ℕ) (word count at : ℕ) (m : Masks) → names_from word count at 0 l ≡ Some m
     → NamesSpelled word count at l m
 names-spelled l word count at m = names-within (suc (length l)) l word count at m (omega arith)

@@ -3,6 +3,7 @@
 --     name_length_lem                   how many bytes a name has
 --     digit_here, name_read          a name is read, where no digit follows
 --     NameAt, read_name             what is read as a name is the name that stands there
+use Rattle.std.specs.Prelude.{Some, None}
 use Prim.Native.Nat.{ℕ, suc, ◌+◌, ◌*◌, ◌-◌, ◌/◌, ◌%◌, ◌≤◌, ◌<◌}
 use native.Mathlib.Nat.{zero-lt-suc, mod-lt, div-add-mod'}
 use native.Mathlib.Omega.{arith}
@@ -19,7 +20,6 @@ use Rattle.basics.proofs.Folds.{every_at}
 use Rattle.basics.proofs.Tests.{and_left, and_right, and_both, or-none}
 use Rattle.description.specs.Bytes.{letter_r, digit, figure, parts}
 use Rattle.description.specs.Symbols.{max_mask, name_length, mask_name, mask_number, mask_at}
-use Rattle.description.specs.declared.MaskName.TheVariants.{Number, NoName}
 
 figure-digit : (i : ℕ) → i < 10 → digit (figure i) ≡ true
 figure-digit i h = and_both (leb 48 (figure i)) (leb (figure i) 57) (le-leb 48 (figure i) (omega arith)) (le-leb (figure i) 57 (omega (arith, h)))
@@ -52,14 +52,14 @@ abbrev pub digit_here : List ℕ → Bool
 digit_here [] = false
 digit_here (c ∷ l) = digit c
 
-pub name_read : (k : ℕ) (rest : List ℕ) → k ≤ max_mask → digit_here rest ≡ false → mask_at (mask_name k ++ rest) ≡ Number k
+pub name_read : (k : ℕ) (rest : List ℕ) → k ≤ max_mask → digit_here rest ≡ false → mask_at (mask_name k ++ rest) ≡ Some k
 name_read k rest h e = go (ltb k 10) refl
   where
-    one : (rest : List ℕ) → digit_here rest ≡ false → mask_number (figure k) rest ≡ Number k
-    one [] e = let back : figure k - 48 ≡ k = omega arith in ap Number back
-    one (j ∷ l) e = let back : figure k - 48 ≡ k = omega arith in rw e (ap Number back)
+    one : (rest : List ℕ) → digit_here rest ≡ false → mask_number (figure k) rest ≡ Some k
+    one [] e = let back : figure k - 48 ≡ k = omega arith in ap Some back
+    one (j ∷ l) e = let back : figure k - 48 ≡ k = omega arith in rw e (ap Some back)
 
-    go : (b : Bool) → ltb k 10 ≡ b → mask_at (mask_name k ++ rest) ≡ Number k
+    go : (b : Bool) → ltb k 10 ≡ b → mask_at (mask_name k ++ rest) ≡ Some k
     go true q =
         let low = ltb-true k 10 q in
         ap (λ w. mask_at (w ++ rest)) (short_name k low) ∙ rw (figure-digit k low) (one rest e)
@@ -109,28 +109,28 @@ module _ (c i : ℕ) (letter : c ≡ letter_r) (first : digit i ≡ true) where
         here = rw test (cc);
       }
 
-pub read_name : (l : List ℕ) (k : ℕ) → mask_at l ≡ Number k → NameAt l k
+pub read_name : (l : List ℕ) (k : ℕ) → mask_at l ≡ Some k → NameAt l k
 read_name [] k e = let z : ◌≡◌ {A = ℕ} 0 1 = cc in absurd (omega (arith, z))
 read_name (c ∷ []) k e = let z : ◌≡◌ {A = ℕ} 0 1 = cc in absurd (omega (arith, z))
 read_name (c ∷ i ∷ l) k e = go (eqb c letter_r && digit i) refl e
   where
-    more : c ≡ letter_r → digit i ≡ true → (l : List ℕ) → mask_number i l ≡ Number k → NameAt (c ∷ i ∷ l) k
+    more : c ≡ letter_r → digit i ≡ true → (l : List ℕ) → mask_number i l ≡ Some k → NameAt (c ∷ i ∷ l) k
     more p q [] e = let number : i - 48 ≡ k = cc in rw number at (short_at c i p q [])
     more p q (j ∷ l) e = two (digit j) refl e
       where
         small : digit j ≡ true → (b : Bool) → (eqb i 48 || ltb max_mask (10 * (i - 48) + (j - 48))) ≡ b
-            → cond b NoName (Number (10 * (i - 48) + (j - 48))) ≡ Number k → NameAt (c ∷ i ∷ j ∷ l) k
+            → cond b None (Some (10 * (i - 48) + (j - 48))) ≡ Some k → NameAt (c ∷ i ∷ j ∷ l) k
         small d true s e = let z : ◌≡◌ {A = ℕ} 0 1 = cc in absurd (omega (arith, z))
         small d false s e =
             let number : 10 * (i - 48) + (j - 48) ≡ k = cc in
             subst (NameAt (c ∷ i ∷ j ∷ l)) number (long_at c i p q j l d s)
 
         two : (b : Bool) → digit j ≡ b
-            → cond b (cond (eqb i 48 || ltb max_mask (10 * (i - 48) + (j - 48))) NoName (Number (10 * (i - 48) + (j - 48)))) (Number (i - 48)) ≡ Number k
+            → cond b (cond (eqb i 48 || ltb max_mask (10 * (i - 48) + (j - 48))) None (Some (10 * (i - 48) + (j - 48)))) (Some (i - 48)) ≡ Some k
             → NameAt (c ∷ i ∷ j ∷ l) k
         two true d e = small d (eqb i 48 || ltb max_mask (10 * (i - 48) + (j - 48))) refl e
         two false d e = let number : i - 48 ≡ k = cc in subst (NameAt (c ∷ i ∷ j ∷ l)) number (short_at c i p q (j ∷ l))
 
-    go : (b : Bool) → (eqb c letter_r && digit i) ≡ b → cond b (mask_number i l) NoName ≡ Number k → NameAt (c ∷ i ∷ l) k
+    go : (b : Bool) → (eqb c letter_r && digit i) ≡ b → cond b (mask_number i l) None ≡ Some k → NameAt (c ∷ i ∷ l) k
     go false q e = let z : ◌≡◌ {A = ℕ} 0 1 = cc in absurd (omega (arith, z))
     go true q e = more (eqb-true c letter_r (and_left (eqb c letter_r) (digit i) q)) (and_right (eqb c letter_r) (digit i) q) l e

@@ -5,8 +5,9 @@
 --     at_opening, too_deep       at a parenthesis opened
 --     at_closing, not_open, nothing-inside     at a parenthesis closed
 --     at_bar                     at a bar
---     at_symbol, no_such, not_declared         at a byte of a symbol
+--     at_symbol, at_fault        at a byte of a symbol, of a run of bytes that is none to take
 --     open_at_end, few_at_end, done_at_end     at the text's end: a parenthesis still open, lines too few, neither
+use Rattle.std.specs.Prelude.{Result, Ok, Err}
 use Prim.Native.Nat.{ℕ, ◌+◌, ◌-◌, ◌≤◌, ◌<◌}
 use native.Mathlib.Omega.{arith}
 use mathlib.Core.Path.{◌≡◌, sym, ◌∙◌, ap}
@@ -18,10 +19,10 @@ use lib.ListN.{length, drop, get_or, length-drop}
 use Rattle.description.specs.Bytes.{space, line_end, opening, closing, bar, parts, word}
 use Rattle.description.specs.Symbols.{symbol_read}
 use Rattle.description.specs.Run.{State, Around, done, refused, run_at, finish, max_depth, placed, took, opened, closed}
-use Rattle.description.specs.Run.{go, stop, step, line_step, line_done, close_step, symbol_step}
+use Rattle.description.specs.Run.{go, stop, step, line_step, line_done, close_step, symbol_refusal, symbol_step}
 use Rattle.wires.specs.declared.Symbol.{Symbol}
-use Rattle.description.specs.declared.SymbolAnswer.{SymbolAnswer}
-use Rattle.description.specs.declared.Refusal.TheVariants.{NoSuchSymbol, MaskNotDeclared, WrongParenthesis, Bar, NestedTooDeep, WrongLineCount}
+use Rattle.description.specs.declared.SymbolFault.{SymbolFault}
+use Rattle.description.specs.declared.Refusal.TheVariants.{WrongParenthesis, Bar, NestedTooDeep, WrongLineCount}
 use Rattle.description.proofs.Running.{drop_byte, run-go, run-stop, run_end}
 use Rattle.description.proofs.Places.{word-inside}
 use Rattle.description.proofs.Steps.{step-space, step_line, step_over, step_open, step-bar, step_close, step-symbol}
@@ -93,30 +94,27 @@ module _ (shares declared : ℕ) (text : List ℕ) (p : ℕ) (s : State) (inside
     at_bar e = run-stop shares declared text p s inside Bar (step-bar shares declared p s byte rest fewer e)
 
     module _ (joined : parts byte ≡ false) where
-      symbol-step : (answer : SymbolAnswer) → symbol_read shares declared (word (drop p text)) ≡ answer
+      symbol-step : (answer : Result Symbol SymbolFault) → symbol_read shares declared (word (drop p text)) ≡ answer
           → step shares declared p s byte rest ≡ symbol_step p (length (word (drop p text))) answer s
       symbol-step answer e =
           step-symbol shares declared p s byte rest fewer joined
           ∙ ap (λ l. symbol_step p (length (word l)) (symbol_read shares declared (word l)) s) (sym (drop_byte text p inside))
-          ∙ ap (λ (a : SymbolAnswer). symbol_step p (length (word (drop p text))) a s) e
+          ∙ ap (λ (a : Result Symbol SymbolFault). symbol_step p (length (word (drop p text))) a s) e
 
-      pub at_symbol : (u : Symbol) → symbol_read shares declared (word (drop p text)) ≡ SymbolAnswer.Known u → 0 < length (word (drop p text))
+      pub at_symbol : (u : Symbol) → symbol_read shares declared (word (drop p text)) ≡ Ok u → 0 < length (word (drop p text))
           → run_at shares declared text p s ≡ run_at shares declared text (p + length (word (drop p text))) (took (placed p u) s)
       at_symbol u e h =
           let size = length (word (drop p text)) in
           let within = word-inside (drop p text) in
           let left = length-drop p text in
           let more : p + 1 + (size - 1) ≡ p + size = omega (arith, h) in
-          run-go shares declared text p s inside (size - 1) (took (placed p u) s) (symbol-step (SymbolAnswer.Known u) e)
+          run-go shares declared text p s inside (size - 1) (took (placed p u) s) (symbol-step (Ok u) e)
           (omega (arith, inside, within, left, h))
           ∙ ap (λ (k : ℕ). run_at shares declared text k (took (placed p u) s)) more
 
-      pub no_such : symbol_read shares declared (word (drop p text)) ≡ SymbolAnswer.NoSuch → run_at shares declared text p s ≡ refused NoSuchSymbol p
-      no_such e = run-stop shares declared text p s inside NoSuchSymbol (symbol-step SymbolAnswer.NoSuch e)
-
-      pub not_declared : symbol_read shares declared (word (drop p text)) ≡ SymbolAnswer.NotDeclared
-          → run_at shares declared text p s ≡ refused MaskNotDeclared p
-      not_declared e = run-stop shares declared text p s inside MaskNotDeclared (symbol-step SymbolAnswer.NotDeclared e)
+      pub at_fault : (fault : SymbolFault) → symbol_read shares declared (word (drop p text)) ≡ Err fault
+          → run_at shares declared text p s ≡ refused (symbol_refusal fault) p
+      at_fault fault e = run-stop shares declared text p s inside (symbol_refusal fault) (symbol-step (Err fault) e)
 
 -- the text's end is a line's end
 module _ (shares declared : ℕ) (text : List ℕ) (p : ℕ) (s : State) (outside : length text ≤ p) where

@@ -10,6 +10,7 @@
 --     figure-share         a byte that writes a share below n
 --     spelled_by, spelling_back      the symbol that has a spelling
 --     same-spelled, spelled_same    symbols that are spelled alike are the same
+use Rattle.std.specs.Prelude.{Option, Some, None, Result, Ok, Err}
 use Prim.Native.Nat.{ℕ, ◌/◌, ◌%◌, ◌≤◌, ◌<◌}
 use native.Mathlib.Nat.{zero-lt-suc, mod-lt, div-add-mod'}
 use native.Mathlib.Omega.{arith}
@@ -32,10 +33,8 @@ use Rattle.description.specs.Symbols.{mask_at, share_digit, product_read, share_
 use Rattle.description.specs.Grammar.{member, known, same_symbol}
 use Rattle.wires.specs.declared.Symbol.{Symbol}
 use Rattle.wires.specs.declared.Symbol.TheVariants.{Product, ShareA, ShareB, Mask}
-use Rattle.description.specs.declared.MaskName.{MaskName}
-use Rattle.description.specs.declared.MaskName.TheVariants.{Number, NoName}
-use Rattle.description.specs.declared.SymbolAnswer.{SymbolAnswer}
-use Rattle.description.specs.declared.SymbolAnswer.TheVariants.{Known, NoSuch, NotDeclared}
+use Rattle.description.specs.declared.SymbolFault.{SymbolFault}
+use Rattle.description.specs.declared.SymbolFault.TheVariants.{NoSuch, NotDeclared}
 use Rattle.description.proofs.Numbers.{member-every}
 use Rattle.description.proofs.Names.{figure-parts, name_length_lem, name_read, read_name}
 use Rattle.description.proofs.Places.{same_bytes}
@@ -72,17 +71,17 @@ figure-share n c e = (
 )
 
 pub known_read : (n declared : ℕ) (names : List ℕ) (s : Symbol) → n ≤ max_shares → Declares declared names → known n names s ≡ true
-    → symbol_read n declared (spelling s) ≡ Known s
+    → symbol_read n declared (spelling s) ≡ Ok s
 known_read n declared names (Product i j) h d k =
     let p = share-figure n i h (and_left (ltb i n) (ltb j n) k) in
     let q = share-figure n j h (and_right (ltb i n) (ltb j n) k) in
-    rw (p.0, q.0) (ap₂ {C = SymbolAnswer} (λ x y. Known (Product x y)) p.1 q.1)
+    rw (p.0, q.0) (ap₂ {C = Result Symbol SymbolFault} (λ x y. Ok (Product x y)) p.1 q.1)
 known_read n declared names (ShareA i) h d k =
-    let p = share-figure n i h k in rw p.0 (ap {B = SymbolAnswer} (λ x. Known (ShareA x)) p.1)
+    let p = share-figure n i h k in rw p.0 (ap {B = Result Symbol SymbolFault} (λ x. Ok (ShareA x)) p.1)
 known_read n declared names (ShareB j) h d k =
-    let p = share-figure n j h k in rw p.0 (ap {B = SymbolAnswer} (λ x. Known (ShareB x)) p.1)
+    let p = share-figure n j h k in rw p.0 (ap {B = Result Symbol SymbolFault} (λ x. Ok (ShareB x)) p.1)
 known_read n declared names (Mask m) h d k =
-    let name : mask_at (mask_name m) ≡ Number m = ap mask_at (sym (append-nil (mask_name m))) ∙ name_read m [] (member-low m names d.low k) refl in
+    let name : mask_at (mask_name m) ≡ Some m = ap mask_at (sym (append-nil (mask_name m))) ∙ name_read m [] (member-low m names d.low k) refl in
     ap (named_read declared (length (mask_name m))) name
     ∙ rw (eq-eqb (length (mask_name m)) (name_length m) (name_length_lem m), d.bits m, k) refl
 
@@ -91,12 +90,12 @@ abbrev KnownAs : ℕ → List ℕ → List ℕ → Symbol → Type 0
 KnownAs n names w s = (w ≡ spelling s) × (known n names s ≡ true)
 
 module _ (n : ℕ) (names : List ℕ) (s : Symbol) where
-  product-known : (w : List ℕ) → product_read n w ≡ Known s → KnownAs n names (letter_s ∷ w) s
+  product-known : (w : List ℕ) → product_read n w ≡ Ok s → KnownAs n names (letter_s ∷ w) s
   product-known [] e = let z : ◌≡◌ {A = ℕ} 0 1 = cc in absurd (omega (arith, z))
   product-known (i ∷ []) e = let z : ◌≡◌ {A = ℕ} 0 1 = cc in absurd (omega (arith, z))
   product-known (i ∷ j ∷ []) e = go (share_digit n i && share_digit n j) refl e
     where
-      go : (b : Bool) → (share_digit n i && share_digit n j) ≡ b → cond b (Known (Product (share_of i) (share_of j))) NoSuch ≡ Known s
+      go : (b : Bool) → (share_digit n i && share_digit n j) ≡ b → cond b (Ok (Product (share_of i) (share_of j))) (Err NoSuch) ≡ Ok s
           → KnownAs n names (letter_s ∷ i ∷ j ∷ []) s
       go false q e = let z : ◌≡◌ {A = ℕ} 0 1 = cc in absurd (omega (arith, z))
       go true q e =
@@ -108,11 +107,11 @@ module _ (n : ℕ) (names : List ℕ) (s : Symbol) where
   product-known (i ∷ j ∷ k ∷ w) e = let z : ◌≡◌ {A = ℕ} 0 1 = cc in absurd (omega (arith, z))
 
   share-known : (letter : ℕ) (share : ℕ → Symbol) → ((i : ℕ) → ltb i n ≡ true → KnownAs n names (letter ∷ share_figure i ∷ []) (share i))
-      → (w : List ℕ) → share_read share n w ≡ Known s → KnownAs n names (letter ∷ w) s
+      → (w : List ℕ) → share_read share n w ≡ Ok s → KnownAs n names (letter ∷ w) s
   share-known letter share spelled [] e = let z : ◌≡◌ {A = ℕ} 0 1 = cc in absurd (omega (arith, z))
   share-known letter share spelled (i ∷ []) e = go (share_digit n i) refl e
     where
-      go : (b : Bool) → share_digit n i ≡ b → cond b (Known (share (share_of i))) NoSuch ≡ Known s → KnownAs n names (letter ∷ i ∷ []) s
+      go : (b : Bool) → share_digit n i ≡ b → cond b (Ok (share (share_of i))) (Err NoSuch) ≡ Ok s → KnownAs n names (letter ∷ i ∷ []) s
       go false q e = let z : ◌≡◌ {A = ℕ} 0 1 = cc in absurd (omega (arith, z))
       go true q e =
           let p = figure-share n i q in
@@ -121,12 +120,12 @@ module _ (n : ℕ) (names : List ℕ) (s : Symbol) where
           subst (KnownAs n names (letter ∷ i ∷ [])) it (ap {B = List ℕ} (λ x. letter ∷ x ∷ []) (sym p.0) ∙ r.0, r.1)
   share-known letter share spelled (i ∷ j ∷ w) e = let z : ◌≡◌ {A = ℕ} 0 1 = cc in absurd (omega (arith, z))
 
-  mask-known : (declared : ℕ) → Declares declared names → (w : List ℕ) (m : MaskName) → mask_at w ≡ m → named_read declared (length w) m ≡ Known s
+  mask-known : (declared : ℕ) → Declares declared names → (w : List ℕ) (m : Option ℕ) → mask_at w ≡ m → named_read declared (length w) m ≡ Ok s
       → KnownAs n names w s
-  mask-known declared d w NoName a e = let z : ◌≡◌ {A = ℕ} 0 1 = cc in absurd (omega (arith, z))
-  mask-known declared d w (Number k) a e = sized (eqb (length w) (name_length k)) refl e
+  mask-known declared d w None a e = let z : ◌≡◌ {A = ℕ} 0 1 = cc in absurd (omega (arith, z))
+  mask-known declared d w (Some k) a e = sized (eqb (length w) (name_length k)) refl e
     where
-      bitted : length w ≡ name_length k → (b : Bool) → bit declared k ≡ b → cond b (Known (Mask k)) NotDeclared ≡ Known s → KnownAs n names w s
+      bitted : length w ≡ name_length k → (b : Bool) → bit declared k ≡ b → cond b (Ok (Mask k)) (Err NotDeclared) ≡ Ok s → KnownAs n names w s
       bitted q false c e = let z : ◌≡◌ {A = ℕ} 0 1 = cc in absurd (omega (arith, z))
       bitted q true c e =
           let all : w ≡ mask_name k =
@@ -135,12 +134,12 @@ module _ (n : ℕ) (names : List ℕ) (s : Symbol) where
           let it : Mask k ≡ s = cc in
           subst (KnownAs n names w) it (all, sym (d.bits k) ∙ c)
 
-      sized : (b : Bool) → eqb (length w) (name_length k) ≡ b → cond b (cond (bit declared k) (Known (Mask k)) NotDeclared) NoSuch ≡ Known s
+      sized : (b : Bool) → eqb (length w) (name_length k) ≡ b → cond b (cond (bit declared k) (Ok (Mask k)) (Err NotDeclared)) (Err NoSuch) ≡ Ok s
           → KnownAs n names w s
       sized false q e = let z : ◌≡◌ {A = ℕ} 0 1 = cc in absurd (omega (arith, z))
       sized true q e = bitted (eqb-true (length w) (name_length k) q) (bit declared k) refl e
 
-pub read_known : (n declared : ℕ) (names w : List ℕ) (s : Symbol) → n ≤ max_shares → Declares declared names → symbol_read n declared w ≡ Known s
+pub read_known : (n declared : ℕ) (names w : List ℕ) (s : Symbol) → n ≤ max_shares → Declares declared names → symbol_read n declared w ≡ Ok s
     → (w ≡ spelling s) × (known n names s ≡ true)
 read_known n declared names [] s h d e = let z : ◌≡◌ {A = ℕ} 0 1 = cc in absurd (omega (arith, z))
 read_known n declared names (c ∷ w) s h d e = product (eqb c letter_s) refl e
@@ -148,20 +147,20 @@ read_known n declared names (c ∷ w) s h d e = product (eqb c letter_s) refl e
     lettered : (letter : ℕ) → eqb c letter ≡ true → KnownAs n names (letter ∷ w) s → KnownAs n names (c ∷ w) s
     lettered letter q r = (ap {B = List ℕ} (λ x. x ∷ w) (eqb-true c letter q) ∙ r.0, r.1)
 
-    other : SymbolAnswer
+    other : Result Symbol SymbolFault
     other = named_read declared (length (c ∷ w)) (mask_at (c ∷ w))
 
-    b_share : (b : Bool) → eqb c letter_b ≡ b → cond b (share_read ShareB n w) other ≡ Known s → KnownAs n names (c ∷ w) s
+    b_share : (b : Bool) → eqb c letter_b ≡ b → cond b (share_read ShareB n w) other ≡ Ok s → KnownAs n names (c ∷ w) s
     b_share true q e = lettered letter_b q (share-known n names s letter_b ShareB (λ j l. (refl, l)) w e)
     b_share false q e = mask-known n names s declared d (c ∷ w) (mask_at (c ∷ w)) refl e
 
-    a_share : (b : Bool) → eqb c letter_a ≡ b → cond b (share_read ShareA n w) (cond (eqb c letter_b) (share_read ShareB n w) other) ≡ Known s
+    a_share : (b : Bool) → eqb c letter_a ≡ b → cond b (share_read ShareA n w) (cond (eqb c letter_b) (share_read ShareB n w) other) ≡ Ok s
         → KnownAs n names (c ∷ w) s
     a_share true q e = lettered letter_a q (share-known n names s letter_a ShareA (λ i l. (refl, l)) w e)
     a_share false q e = b_share (eqb c letter_b) refl e
 
     product : (b : Bool) → eqb c letter_s ≡ b
-        → cond b (product_read n w) (cond (eqb c letter_a) (share_read ShareA n w) (cond (eqb c letter_b) (share_read ShareB n w) other)) ≡ Known s
+        → cond b (product_read n w) (cond (eqb c letter_a) (share_read ShareA n w) (cond (eqb c letter_b) (share_read ShareB n w) other)) ≡ Ok s
         → KnownAs n names (c ∷ w) s
     product true q e = lettered letter_s q (product-known n names s w e)
     product false q e = a_share (eqb c letter_a) refl e
@@ -226,9 +225,9 @@ spelling-word (Mask m) f rest e = ap {B = List ℕ} (λ w. letter_r ∷ w) (go (
 
 -- ---- symbols, by their spelling
 
-abbrev named : MaskName → Symbol
-named NoName = Mask 0
-named (Number k) = Mask k
+abbrev named : Option ℕ → Symbol
+named None = Mask 0
+named (Some k) = Mask k
 
 -- the symbol that has this spelling
 abbrev pub spelled_by : List ℕ → Symbol

@@ -4,6 +4,7 @@
 --     second_wrong     3: second line wrong or absent, offset where it starts or the text's length
 --     second_inside, second_absent     where that is
 --     after_header     else what the run over the output lines comes to
+use Rattle.std.specs.Prelude.{Option, Some, None}
 use Prim.Native.Nat.{ℕ, ◌+◌, ◌≤◌, ◌<◌}
 use mathlib.Core.Path.{◌≡◌, refl, ◌∙◌, ap}
 use mathlib.Core.Bool.{Bool, cond}
@@ -13,8 +14,6 @@ use lib.ListN.{length, drop}
 use Rattle.description.specs.Header.{order_line, masks_line}
 use Rattle.description.specs.Run.{turned_down, listed, start, run_at, max_text, second_at, second_line, after_masks, after_order, reading}
 use Rattle.description.specs.declared.Masks.{Masks}
-use Rattle.description.specs.declared.OrderLine.{OrderLine}
-use Rattle.description.specs.declared.MasksLine.{MasksLine}
 use Rattle.description.specs.declared.Refusal.TheVariants.{TextTooLong, WrongOrderLine, WrongMasksLine}
 use Rattle.description.proofs.HeaderLines.{FirstLine, order-exactly, HeaderRead, header-spelled}
 
@@ -29,12 +28,12 @@ module _ (text : List ℕ) where
     pub first_wrong : ((order : ℕ) → FirstLine text order → ⊥) → reading text ≡ turned_down WrongOrderLine 0
     first_wrong none = in_length ∙ go (order_line text) refl
       where
-        go : (line : OrderLine) → order_line text ≡ line → after_order text line ≡ turned_down WrongOrderLine 0
-        go OrderLine.Wrong e = refl
-        go (OrderLine.Order order) e = absurd (none order ((order-exactly text order).0 e))
+        go : (line : Option ℕ) → order_line text ≡ line → after_order text line ≡ turned_down WrongOrderLine 0
+        go None e = refl
+        go (Some order) e = absurd (none order ((order-exactly text order).0 e))
 
     module _ (order : ℕ) (first : FirstLine text order) where
-      is-order : order_line text ≡ OrderLine.Order order
+      is-order : order_line text ≡ Some order
       is-order = (order-exactly text order).1 first
 
       second : reading text ≡ after_masks text order (masks_line second_at (drop second_at text))
@@ -43,11 +42,11 @@ module _ (text : List ℕ) where
       pub second_wrong : ((m : Masks) (names : List ℕ) → HeaderRead text order m names → ⊥) → reading text ≡ turned_down WrongMasksLine (second_line text)
       second_wrong none = second ∙ go (masks_line second_at (drop second_at text)) refl
         where
-          go : (line : MasksLine) → masks_line second_at (drop second_at text) ≡ line → after_masks text order line ≡ turned_down WrongMasksLine (second_line text)
-          go MasksLine.Wrong e = refl
-          go (MasksLine.Declared m) e = let r = header-spelled text order m is-order e in absurd (none m r.0 r.1)
+          go : (line : Option Masks) → masks_line second_at (drop second_at text) ≡ line → after_masks text order line ≡ turned_down WrongMasksLine (second_line text)
+          go None e = refl
+          go (Some m) e = let r = header-spelled text order m is-order e in absurd (none m r.0 r.1)
 
-      pub after_header : (m : Masks) → masks_line second_at (drop second_at text) ≡ MasksLine.Declared m
+      pub after_header : (m : Masks) → masks_line second_at (drop second_at text) ≡ Some m
           → reading text ≡ listed order m.count (run_at (order + 1) m.declared text m.end start)
       after_header m e = second ∙ ap (after_masks text order) e
 

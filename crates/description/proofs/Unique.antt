@@ -1,5 +1,6 @@
 -- The grammar is unambiguous: a text spells one description.
 --     spelled-once      two descriptions that a text spells are the same
+use Rattle.std.specs.Prelude.{Some}
 use Prim.Native.Nat.{ℕ, ◌+◌, ◌<◌}
 use native.Mathlib.Omega.{arith}
 use mathlib.Core.Path.{◌≡◌, refl, sym, ◌∙◌, ap, ap₂, subst}
@@ -17,7 +18,6 @@ use Rattle.description.specs.Run.{placed}
 use Rattle.description.specs.Grammar.{Items, none, symbol, group, Description, Byte, Bytes, counted, further-names, joined, header_text}
 use Rattle.description.specs.Grammar.{Spelled, end, spaced, a_symbol, a_group, Lines, last, line, Spells}
 use Rattle.wires.specs.declared.Symbol.{Symbol}
-use Rattle.description.specs.declared.MaskName.TheVariants.{Number}
 use Rattle.description.proofs.Names.{name_length_lem, digit_here, name_read}
 use Rattle.description.proofs.Spelling.{spelling-length, spelled_by, spelling_back}
 use Rattle.description.proofs.Places.{byte_inside, bytes_rest, word-joined, joined_byte}
@@ -135,7 +135,7 @@ module _ (text : List ℕ) where
 name_once : (k l : ℕ) (s t : List ℕ) → leb k max_mask ≡ true → leb l max_mask ≡ true → digit_here s ≡ false → digit_here t ≡ false
     → mask_name k ++ s ≡ mask_name l ++ t → (k ≡ l) × (s ≡ t)
 name_once k l s t low low' d d' e =
-    let number : Number k ≡ Number l =
+    let number : Some k ≡ Some l =
     sym (name_read k s (leb-true k max_mask low) d) ∙ ap mask_at e ∙ name_read l t (leb-true l max_mask low') d' in
     let same : k ≡ l = cc in (
       same,

@@ -14,6 +14,7 @@
 --     newest_outer         the newest wire made the outer one of a line
 --     line_done            an output line done: its last addition, or the single symbol's own wire, is outer
 --     Step, step          what is done at a byte: go on, so many bytes passed over after it, or stop
+--     symbol_refusal      the refusal of a run of bytes that is no symbol to take
 --     line_step, open_step, close_step, symbol_step     what is done at a line's end, at a parenthesis, at a symbol
 --     Outcome, finish     what a run comes to; the text's end
 --     run, run_at          the run over the bytes from a place on
@@ -21,7 +22,7 @@
 --     second_at            the place of the second line
 --     second_line          where the second line starts, or the text's length
 --     after_masks, after_order, reading     the reading of a whole text, from its end to its start
-use Rattle.std.specs.Prelude.{ℕ, zero, suc, ◌+◌, ◌-◌, Bool, false, cond, ◌||◌, List, [], ◌∷◌, reverse, eqb, ltb, length, drop}
+use Rattle.std.specs.Prelude.{ℕ, zero, suc, ◌+◌, ◌-◌, Bool, false, cond, ◌||◌, List, [], ◌∷◌, reverse, eqb, ltb, length, drop, Option, Some, None, Result, Ok, Err}
 use Rattle.wires.specs.declared.Symbol.{Symbol}
 use Rattle.records.specs.Layout.{no_sum, plus_sum}
 use Rattle.record_words.specs.Symbols.{symbol_sum, is_in}
@@ -31,12 +32,11 @@ use Rattle.description.specs.Symbols.{symbol_length, symbol_read}
 use Rattle.description.specs.Header.{order_line, masks_line}
 use Rattle.description.specs.Listing.{symbol_wire, made_outer, outer_wire, empty_group, addition_wire, put_into}
 use Rattle.description.specs.declared.PlacedSymbol.{PlacedSymbol}
-use Rattle.description.specs.declared.SymbolAnswer.{SymbolAnswer}
+use Rattle.description.specs.declared.SymbolFault.{SymbolFault}
 use Rattle.description.specs.declared.Listed.{Listed}
 use Rattle.description.specs.declared.Item.{Item}
 use Rattle.description.specs.declared.Group.{Group}
-use Rattle.description.specs.declared.OrderLine.{OrderLine}
-use Rattle.description.specs.declared.MasksLine.{MasksLine}
+use Rattle.description.specs.declared.Masks.{Masks}
 use Rattle.description.specs.declared.Refusal.{Refusal}
 use Rattle.description.specs.declared.Refusal.TheVariants.{TextTooLong, WrongOrderLine, WrongMasksLine, NoSuchSymbol, MaskNotDeclared}
 use Rattle.description.specs.declared.Refusal.TheVariants.{WrongParenthesis, Bar, NestedTooDeep, WrongLineCount, TooManyWires}
@@ -172,10 +172,13 @@ close_step at [] s = stop WrongParenthesis
 close_step at (g ∷ around) s = cond s.group.filled (go 0 (closed at g around s)) (stop WrongParenthesis)
 
 -- 4: no such symbol, or a share beyond the order; 5: a well-formed mask not declared
-abbrev pub symbol_step : ℕ → ℕ → SymbolAnswer → State → Step
-symbol_step at size SymbolAnswer.NoSuch s = stop NoSuchSymbol
-symbol_step at size SymbolAnswer.NotDeclared s = stop MaskNotDeclared
-symbol_step at size (SymbolAnswer.Known symbol) s = go (size - 1) (took (placed at symbol) s)
+abbrev pub symbol_refusal : SymbolFault → Refusal
+symbol_refusal SymbolFault.NoSuch = NoSuchSymbol
+symbol_refusal SymbolFault.NotDeclared = MaskNotDeclared
+
+abbrev pub symbol_step : ℕ → ℕ → Result Symbol SymbolFault → State → Step
+symbol_step at size (Err fault) s = stop (symbol_refusal fault)
+symbol_step at size (Ok symbol) s = go (size - 1) (took (placed at symbol) s)
 
 -- at the byte c, with l after it; 9: a line too many, at its first byte that is no space; 7: a bar
 abbrev pub step : ℕ → ℕ → ℕ → State → ℕ → List ℕ → Step
@@ -228,13 +231,13 @@ abbrev pub second_line : List ℕ → ℕ
 second_line text = cond (ltb (length text) second_at) (length text) second_at
 
 -- shares are order + 1
-abbrev pub after_masks : List ℕ → ℕ → MasksLine → Reading
-after_masks text order MasksLine.Wrong = turned_down WrongMasksLine (second_line text)
-after_masks text order (MasksLine.Declared m) = listed order m.count (run_at (order + 1) m.declared text m.end start)
+abbrev pub after_masks : List ℕ → ℕ → Option Masks → Reading
+after_masks text order None = turned_down WrongMasksLine (second_line text)
+after_masks text order (Some m) = listed order m.count (run_at (order + 1) m.declared text m.end start)
 
-abbrev pub after_order : List ℕ → OrderLine → Reading
-after_order text OrderLine.Wrong = turned_down WrongOrderLine 0
-after_order text (OrderLine.Order order) = after_masks text order (masks_line second_at (drop second_at text))
+abbrev pub after_order : List ℕ → Option ℕ → Reading
+after_order text None = turned_down WrongOrderLine 0
+after_order text (Some order) = after_masks text order (masks_line second_at (drop second_at text))
 
 -- 1: over 4,096 bytes, before all else; 2: first line wrong; 3: second line wrong or absent
 abbrev pub reading : List ℕ → Reading

@@ -11,16 +11,14 @@
 --     share_digit n c           whether c writes a share below n
 --     product_read, share_read, named_read     what follows the letter of a product, of a share; a mask's name and nothing after it
 --     symbol_read n d w         what the run of bytes w is, for n shares and the declared masks d
-use Rattle.std.specs.Prelude.{ℕ, ◌+◌, ◌*◌, ◌-◌, ◌/◌, ◌%◌, Bool, cond, ◌&&◌, ◌||◌, List, [], ◌∷◌, eqb, ltb, leb, length}
+use Rattle.std.specs.Prelude.{ℕ, ◌+◌, ◌*◌, ◌-◌, ◌/◌, ◌%◌, Bool, cond, ◌&&◌, ◌||◌, List, [], ◌∷◌, eqb, ltb, leb, length, Option, Some, None, Result, Ok, Err}
 use Rattle.limits.specs.Limits.{max_masks}
 use Rattle.wires.specs.declared.Symbol.{Symbol}
 use Rattle.wires.specs.declared.Symbol.TheVariants.{Product, ShareA, ShareB, Mask}
 use Rattle.records.specs.Words.{bit}
 use Rattle.description.specs.Bytes.{letter_s, letter_a, letter_b, letter_r, digit, figure}
-use Rattle.description.specs.declared.MaskName.{MaskName}
-use Rattle.description.specs.declared.MaskName.TheVariants.{Number, NoName}
-use Rattle.description.specs.declared.SymbolAnswer.{SymbolAnswer}
-use Rattle.description.specs.declared.SymbolAnswer.TheVariants.{Known, NoSuch, NotDeclared}
+use Rattle.description.specs.declared.SymbolFault.{SymbolFault}
+use Rattle.description.specs.declared.SymbolFault.TheVariants.{NoSuch, NotDeclared}
 
 abbrev pub name_length : ℕ → ℕ
 name_length k = cond (ltb k 10) 2 3
@@ -62,40 +60,40 @@ symbol_length (ShareB j) = 2
 symbol_length (Mask k) = name_length k
 
 -- a name takes a second digit where one stands; the first is then no 0, and the number at most 63
-abbrev pub mask_number : ℕ → List ℕ → MaskName
-mask_number i [] = Number (i - 48)
+abbrev pub mask_number : ℕ → List ℕ → Option ℕ
+mask_number i [] = Some (i - 48)
 mask_number i (j ∷ l) =
     cond (digit j)
-    (cond (eqb i 48 || ltb max_mask (10 * (i - 48) + (j - 48))) NoName (Number (10 * (i - 48) + (j - 48))))
-    (Number (i - 48))
+    (cond (eqb i 48 || ltb max_mask (10 * (i - 48) + (j - 48))) None (Some (10 * (i - 48) + (j - 48))))
+    (Some (i - 48))
 
-abbrev pub mask_at : List ℕ → MaskName
-mask_at [] = NoName
-mask_at (c ∷ []) = NoName
-mask_at (c ∷ i ∷ l) = cond (eqb c letter_r && digit i) (mask_number i l) NoName
+abbrev pub mask_at : List ℕ → Option ℕ
+mask_at [] = None
+mask_at (c ∷ []) = None
+mask_at (c ∷ i ∷ l) = cond (eqb c letter_r && digit i) (mask_number i l) None
 
 -- a byte that writes a share, and the share is below n
 abbrev pub share_digit : ℕ → ℕ → Bool
 share_digit n c = eqb (share_figure (share_of c)) c && ltb (share_of c) n
 
-abbrev pub product_read : ℕ → List ℕ → SymbolAnswer
-product_read n [] = NoSuch
-product_read n (i ∷ []) = NoSuch
-product_read n (i ∷ j ∷ []) = cond (share_digit n i && share_digit n j) (Known (Product (share_of i) (share_of j))) NoSuch
-product_read n (i ∷ j ∷ k ∷ l) = NoSuch
+abbrev pub product_read : ℕ → List ℕ → Result Symbol SymbolFault
+product_read n [] = Err NoSuch
+product_read n (i ∷ []) = Err NoSuch
+product_read n (i ∷ j ∷ []) = cond (share_digit n i && share_digit n j) (Ok (Product (share_of i) (share_of j))) (Err NoSuch)
+product_read n (i ∷ j ∷ k ∷ l) = Err NoSuch
 
-abbrev pub share_read : (ℕ → Symbol) → ℕ → List ℕ → SymbolAnswer
-share_read share n [] = NoSuch
-share_read share n (i ∷ []) = cond (share_digit n i) (Known (share (share_of i))) NoSuch
-share_read share n (i ∷ j ∷ l) = NoSuch
+abbrev pub share_read : (ℕ → Symbol) → ℕ → List ℕ → Result Symbol SymbolFault
+share_read share n [] = Err NoSuch
+share_read share n (i ∷ []) = cond (share_digit n i) (Ok (share (share_of i))) (Err NoSuch)
+share_read share n (i ∷ j ∷ l) = Err NoSuch
 
 -- a mask's name and nothing after it
-abbrev pub named_read : ℕ → ℕ → MaskName → SymbolAnswer
-named_read declared size NoName = NoSuch
-named_read declared size (Number k) = cond (eqb size (name_length k)) (cond (bit declared k) (Known (Mask k)) NotDeclared) NoSuch
+abbrev pub named_read : ℕ → ℕ → Option ℕ → Result Symbol SymbolFault
+named_read declared size None = Err NoSuch
+named_read declared size (Some k) = cond (eqb size (name_length k)) (cond (bit declared k) (Ok (Mask k)) (Err NotDeclared)) (Err NoSuch)
 
-abbrev pub symbol_read : ℕ → ℕ → List ℕ → SymbolAnswer
-symbol_read n declared [] = NoSuch
+abbrev pub symbol_read : ℕ → ℕ → List ℕ → Result Symbol SymbolFault
+symbol_read n declared [] = Err NoSuch
 symbol_read n declared (c ∷ w) =
     cond (eqb c letter_s) (product_read n w)
     (cond (eqb c letter_a) (share_read ShareA n w)

@@ -2,7 +2,7 @@
 #![tactic(auto)]
 
 ghost use Rattle.std.specs.Prelude.{◌≡◌};
-ghost use Rattle.description.specs.Run.{refusal_number};
+ghost use Rattle.description.specs.Run.{refusal_number, symbol_refusal};
 
 use records::sums::Sum;
 use wires::Symbol;
@@ -17,26 +17,11 @@ pub struct PlacedSymbol {
 // The most bytes of a text.
 pub const MAX_TEXT_BYTES: usize = 4096;
 
-// What a run of bytes is.
+// Why a run of bytes is no symbol to take: it spells none of the order's, or a mask that is not declared.
 #[derive(Clone, Copy)]
-pub enum SymbolAnswer {
-    Known(Symbol),
+pub enum SymbolFault {
     NoSuch,
     NotDeclared,
-}
-
-// What stands where a mask's name is looked for.
-#[derive(Clone, Copy)]
-pub enum MaskName {
-    Number(usize),
-    NoName,
-}
-
-// What the first line gives.
-#[derive(Clone, Copy)]
-pub enum OrderLine {
-    Order(usize),
-    Wrong,
 }
 
 // What the second line declares: bit k for mask k, the mask count, and the place of the line's end.
@@ -47,16 +32,11 @@ pub struct Masks {
     pub end: usize,
 }
 
-#[derive(Clone, Copy)]
-pub enum MasksLine {
-    Declared(Masks),
-    Wrong,
-}
-
 // A wire as it is listed: the sum it holds, whether it is an outer one and of which output line, and the part of the text that computes it.
 #[derive(Clone, Copy)]
 pub struct Listed {
     pub sum: Sum,
+    // kept: outer and line have a byte each in the record that C reads (`record_of`)
     pub outer: bool,
     pub line: usize,
     pub offset: usize,
@@ -75,6 +55,7 @@ pub struct Item {
 #[derive(Clone, Copy)]
 pub struct Group {
     pub sum: Sum,
+    // kept: an empty group has the sum of no items, and as an Option each item would take it apart and put it together again
     pub filled: bool,
     pub first: usize,
 }
@@ -92,6 +73,24 @@ pub enum Refusal {
     NestedTooDeep,
     WrongLineCount,
     TooManyWires,
+}
+
+// Why a text is turned down, and the byte offset of its fault.
+#[derive(Clone, Copy)]
+pub struct Fault {
+    pub why: Refusal,
+    pub offset: usize,
+}
+
+impl From<SymbolFault> for Refusal {
+    ghost from_gives = { λ fault why. why ≡ symbol_refusal fault };
+
+    fn from(fault: SymbolFault) -> Refusal {
+        match fault {
+            SymbolFault::NoSuch => Refusal::NoSuchSymbol,
+            SymbolFault::NotDeclared => Refusal::MaskNotDeclared,
+        }
+    }
 }
 
 impl Refusal {

@@ -7,8 +7,8 @@ ghost use Rattle.verdict_answers.specs.Answers.{verdict_told, verdict_of};
 ghost use Rattle.verdict_answers.specs.First.{VerdictFinds};
 ghost use Rattle.verdict_answers.specs.Guarantee.{Guarantee};
 
-use judging::{Way, judge};
-pub use verdict_answers::{Refusal, VerdictAnswer};
+use judging::{Directed, judge};
+pub use verdict_answers::{Judged, Refusal};
 
 // Whether the table holds the notion (1, NI; 2, SNI) at an order, by a search that goes from wire to wire along the masks. Where it does not, the first
 // breaking set in rising size and rank is written, rising, at the start of `set`.
@@ -19,10 +19,10 @@ pub fn directed_verdict(
     notion: usize,
     order: usize,
     set: &mut [u16],
-) -> VerdictAnswer
+) -> Result<Judged, Refusal>
     ensures set_after { verdict_told result set.new ≡ verdict_of table.now shares masks notion order set.old }
     ensures verdict_finds { VerdictFinds result table.now shares masks notion order set.old set.new }
     ensures guarantee { Guarantee result table.now shares masks notion order set.new }
 {
-    judge(Way::Directed, table, shares, masks, notion, order, set)
+    judge::<Directed>(table, shares, masks, notion, order, set)
 }

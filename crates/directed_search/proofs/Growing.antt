@@ -10,6 +10,7 @@ use mathlib.Core.Path.{◌≡◌, refl, sym, ◌∙◌, ap, subst}
 use mathlib.Core.Bool.{Bool, false}
 use mathlib.Core.List.{List, [], ◌∷◌, ◌++◌}
 use lib.ListN.{length, take, drop}
+use Rattle.std.proofs.Common.{None, Some}
 use lib.Seq.{take_at}
 use Rattle.limits.specs.Limits.{max_shares, max_masks}
 use Rattle.counts.specs.Counts.{binom}
@@ -21,7 +22,7 @@ use Rattle.wires.proofs.Breaks.{empty-breaks-nothing}
 use Rattle.records.specs.Layout.{wire_count}
 use Rattle.breaking.specs.Breaking.{is_breaking}
 use Rattle.search.specs.Search.{searched, FirstSet}
-use Rattle.search.proofs.Ranges.{RangeClean, clean_range}
+use Rattle.search.proofs.Ranges.{clean_range}
 use Rattle.search.proofs.Sizes.{all-smaller, none_found, set_found}
 use Rattle.parts.specs.Parts.{members, NoneBelow}
 use Rattle.parts.proofs.Ranks.{members_at}
@@ -33,29 +34,28 @@ pub record Smaller (test : List ℕ → Bool) (n size : ℕ) : Type 0 where
 pub no_smaller : (test : List ℕ → Bool) (n : ℕ) → Smaller test n 1
 no_smaller test n = record { ranks = λ k i a b. let z : ⊥ = omega (arith, a, b) in absurd z }
 
-module _ (test : List ℕ → Bool) (n size rank : ℕ) (smaller : Smaller test n size) (least : LeastRank test n size rank) where
-  range : RangeClean test n size 0 rank
-  range = clean_range test n size 0 rank zero-le least.most (λ i a b. least.earlier i b)
-
-  pub size_done : binom n size ≤ rank → Smaller test n (size + 1)
+module _ (test : List ℕ → Bool) (n size : ℕ) (smaller : Smaller test n size) where
+  pub size_done : LeastRank test n size None → Smaller test n (size + 1)
   size_done none = record { ranks = λ k i a b h. go k i a b h (dec_lt k size) }
     where
       go : (k i : ℕ) → 1 ≤ k → k < size + 1 → i < binom n k → Dec (k < size) → test (set_at n k i) ≡ false
       go k i a b h (yes p) = smaller.ranks k i a p h
       go k i a b h (no p) =
           let same : k ≡ size = omega (arith, b, p) in
-          ap (λ (j : ℕ). test (set_at n j i)) same ∙ least.earlier i (omega (arith, subst (λ (j : ℕ). i < binom n j) same h, none))
+          ap (λ (j : ℕ). test (set_at n j i)) same ∙ none i (subst (λ (j : ℕ). i < binom n j) same h)
 
-  pub size_found : (order : ℕ) (held held₀ : List ℕ) → 1 ≤ size → size ≤ order → rank < binom n size → held ≡ set_at n size rank ++ drop size held₀
-      → FirstSet test (searched n order) size held
-  size_found order held held₀ some few less wrote =
-      set_found test n size order rank held some few less (all-smaller test n size some smaller.ranks) range (sym (least.found less))
-      (ap (take size) wrote ∙ take_at (set_at n size rank) (drop size held₀) size (is_set-parts n size (set_at n size rank) (set_at-is-set n size rank less)).0)
+  pub size_found : (rank order : ℕ) (held held₀ : List ℕ) → 1 ≤ size → size ≤ order → LeastRank test n size (Some rank)
+      → held ≡ set_at n size rank ++ drop size held₀ → FirstSet test (searched n order) (Some size) held
+  size_found rank order held held₀ some few least wrote =
+      set_found test n size order rank held some few least.within (all-smaller test n size some smaller.ranks)
+      (clean_range test n size 0 rank zero-le (omega (arith, least.within)) (λ i a b. least.earlier i b)) (sym least.found)
+      (ap (take size) wrote
+      ∙ take_at (set_at n size rank) (drop size held₀) size (is_set-parts n size (set_at n size rank) (set_at-is-set n size rank least.within)).0)
 
-pub sizes-done : (test : List ℕ → Bool) (n order size found : ℕ) (held : List ℕ) → Smaller test n size → found ≡ 0 → 1 ≤ size → order < size → size ≤ order + 1
-    → FirstSet test (searched n order) found held
-sizes-done test n order size found held smaller nil some low high =
-    none_found test n order size found held nil low high (all-smaller test n size some smaller.ranks)
+pub sizes-done : (test : List ℕ → Bool) (n order size : ℕ) → Smaller test n size → 1 ≤ size → order < size → size ≤ order + 1
+    → FirstSet test (searched n order) None []
+sizes-done test n order size smaller some low high =
+    none_found test n order size [] low high (all-smaller test n size some smaller.ranks)
 
 pub none_below : (notion : Notion) (table : List ℕ) (size : ℕ) → Smaller (is_breaking notion table max_shares max_masks) (wire_count table) size
     → NoneBelow (is_breaking notion table max_shares max_masks) (wire_count table) size

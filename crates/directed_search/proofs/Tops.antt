@@ -13,6 +13,7 @@ use mathlib.Core.Path.{◌≡◌, refl, sym, ◌∙◌, ap, subst}
 use mathlib.Core.Logic.{◌⊎◌, inl, inr}
 use mathlib.Core.Bool.{Bool, true, false, true≢false}
 use mathlib.Core.List.{List, map}
+use Rattle.std.proofs.Common.{None}
 use borrow.Author.Tests.{eq-eqb, ne_eqb}
 use lib.Dec.{eqb}
 use lib.ListN.{length, set, replicate, length-set, length-replicate, get_or-replicate}
@@ -36,7 +37,7 @@ use Rattle.parts.proofs.Sums.{sum_one, paid_one, length-one}
 use Rattle.choices.specs.Marks.{is_open, is_closed, is_chosen, Fits}
 use Rattle.descent.specs.Nodes.{Node, Looked}
 use Rattle.choices.proofs.Marking.{not_both, closed-not_chosen, chosen_other, open_other, closed-other, now_chosen, now_open, read-closed}
-use Rattle.directed_search.specs.Least.{LeastRank}
+use Rattle.directed_search.specs.Least.{ShowsLeast, LeastRank}
 
 pub record Rooted (top : ℕ) (marks : List ℕ) : Type 0 where
   pub room : length marks ≡ max_wires
@@ -165,16 +166,13 @@ module _ (test : List ℕ → Bool) (notion : Notion) (table : List ℕ) (size t
         up_to i at (omega (arith, at, wider, nothing, all));
   }
 
-  pub top_found : least < none → LeastRank test (wire_count table) size least
+  pub top_found : least < none → ShowsLeast test (wire_count table) size least
   top_found less = record {
-    most = omega (arith, less, all);
-    found = λ h. looked.found less;
+    within = omega (arith, less, all);
+    found = looked.found less;
     earlier = λ i h. up_to i (omega (arith, h, looked.low less)) h;
   }
 
-pub all_done : (test : List ℕ → Bool) (n size top none : ℕ) → Passed test n size top → n ≤ top → top ≤ n → none ≡ binom n size → LeastRank test n size none
-all_done test n size top none passed low high is = record {
-  most = omega (arith, is);
-  found = λ h. let z : ⊥ = omega (arith, is, h) in absurd z;
-  earlier = λ i h. let e : n ≡ top = omega (arith, low, high) in passed.clean i (subst (λ (k : ℕ). i < binom k size) e (omega (arith, h, is)));
-}
+pub all_done : (test : List ℕ → Bool) (n size top : ℕ) → Passed test n size top → n ≤ top → top ≤ n → LeastRank test n size None
+all_done test n size top passed low high i h =
+    let e : n ≡ top = omega (arith, low, high) in passed.clean i (subst (λ (k : ℕ). i < binom k size) e h)

@@ -25,7 +25,7 @@ use revolving::unrank;
 use shares::ones::WORDS;
 use wires::Notion;
 
-// The least rank of a breaking set of a size, where no smaller set breaks; the number of sets of the size where none does.
+// The least rank of a breaking set of a size, where no smaller set breaks.
 fn least_rank(
     table: &[u8],
     counts: &[u64; COUNTS],
@@ -34,12 +34,13 @@ fn least_rank(
     rarity: &[usize; MAX_MASKS],
     notion: Notion,
     size: usize,
-) -> u64
+) -> Option<u64>
     requires counts { Counts counts.now × Ones ones.now × Carriers table.now carriers.now }
     requires table_len_bound { (length table.now ≤ max_table_bytes) × (0 < size) × (size ≤ max_size) × NoneBelow (is_breaking notion table.now max_shares max_masks) (wire_count table.now) size }
     ensures { LeastRank (is_breaking notion table.now max_shares max_masks) (wire_count table.now) size result }
 {
     let wires = table.len() / RECORD_BYTES;
+    // kept: the number of sets is above every rank, so that the least rank so far has no case of its own for none
     let none = count(counts, wires, size);
     let mut marks = [CLOSED; MAX_WIRES];
     for top in 0..wires {
@@ -61,15 +62,15 @@ fn least_rank(
         );
         // a set with a higher wire has a higher rank
         if least < none {
-            return least;
+            return Some(least);
         }
         marks[top] = OPEN;
     }
-    none
+    None
 }
 
-// The size of the first breaking set of up to `order` wires, with the set at the start of `probes`, or 0.
-pub fn first_set(table: &[u8], notion: Notion, order: usize, probes: &mut [u16]) -> usize
+// The size of the first breaking set of up to `order` wires, with the set at the start of `probes`.
+pub fn first_set(table: &[u8], notion: Notion, order: usize, probes: &mut [u16]) -> Option<usize>
     requires { (length table.now ≤ max_table_bytes) × (order ≤ max_size) × (order ≤ length probes.old) }
     ensures { FirstSet (is_breaking notion table.now max_shares max_masks) (searched (wire_count table.now) order) result probes.new }
 {
@@ -80,11 +81,10 @@ pub fn first_set(table: &[u8], notion: Notion, order: usize, probes: &mut [u16])
     fill(table, &mut carriers);
     let rarity = rarest_first(&carriers, wires);
     for size in 1..=order {
-        let rank = least_rank(table, &counts, &ones, &carriers, &rarity, notion, size);
-        if rank < count(&counts, wires, size) {
+        if let Some(rank) = least_rank(table, &counts, &ones, &carriers, &rarity, notion, size) {
             unrank(&counts, wires, size, rank, probes);
-            return size;
+            return Some(size);
         }
     }
-    0
+    None
 }

@@ -8,7 +8,7 @@ use Rattle.sets.specs.declared.Refusal.{Refusal}
 use Rattle.sets.specs.Answers.{refusal_number}
 use Rattle.sets.proofs.Examples.{fours}
 use Rattle.division.specs.Division.{start}
-use Rattle.division.specs.declared.JobAnswer.{JobAnswer}
+use Rattle.std.specs.Prelude.{Ok, Err}
 use Rattle.division.specs.Answers.{job_told, job_ranks}
 
 pub job_three_of_seven : job_ranks 24 2 3 7 ≡ values (118 ∷ 157 ∷ [])
@@ -28,6 +28,6 @@ unfolding binom
 job-limits = (refl, refl, refl, refl, refl, refl, refl)
 
 -- what each answer tells
-pub numbers : ((from to : ℕ) → job_told (JobAnswer.Ranks from to) ≡ values (from ∷ to ∷ []))
-    × ((why : Refusal) → job_told (JobAnswer.Refused why) ≡ refusal (refusal_number why))
+pub numbers : ((from to : ℕ) → job_told (Ok (record { from = from; to = to })) ≡ values (from ∷ to ∷ []))
+    × ((why : Refusal) → job_told (Err why) ≡ refusal (refusal_number why))
 numbers = (λ from to. refl, λ why. refl)

@@ -2,17 +2,18 @@
 --     job_told      what the answer of the code tells
 --     max_jobs      the most jobs of a division
 --     job_ranks     what `job` is to tell
-use Rattle.std.specs.Prelude.{ℕ, suc, cond, ◌||◌, [], ◌∷◌, ltb, leb, eqb}
+use Rattle.std.specs.Prelude.{ℕ, suc, cond, ◌||◌, [], ◌∷◌, ltb, leb, eqb, Result, Ok, Err}
 use Rattle.limits.specs.Limits.{max_wires, max_size}
 use Rattle.basics.specs.Told.{Told, values, refusal}
 use Rattle.counts.specs.Counts.{binom}
 use Rattle.sets.specs.Answers.{refusal_number}
 use Rattle.division.specs.Division.{start}
-use Rattle.division.specs.declared.JobAnswer.{JobAnswer}
+use Rattle.sets.specs.declared.Refusal.{Refusal}
+use Rattle.division.specs.declared.Ranks.{Ranks}
 
-abbrev pub job_told : JobAnswer → Told
-job_told (JobAnswer.Ranks from to) = values (from ∷ to ∷ [])
-job_told (JobAnswer.Refused why) = refusal (refusal_number why)
+abbrev pub job_told : Result Ranks Refusal → Told
+job_told (Ok ranks) = values (ranks.from ∷ ranks.to ∷ [])
+job_told (Err why) = refusal (refusal_number why)
 
 abbrev pub max_jobs : ℕ
 max_jobs = 65536

@@ -6,43 +6,31 @@ ghost use Rattle.std.specs.Prelude.{◌≡◌, ◌≤◌, ◌<◌};
 ghost use Rattle.division.specs.Answers.{job_told, job_ranks, max_jobs};
 ghost use Rattle.division.specs.Division.{start};
 
-use limits::{MAX_SIZE, MAX_WIRES};
 use sets::Refusal;
 
 pub const MAX_JOBS: u64 = 65536;
 
 // The ranks from one up to, without, the other.
 #[derive(Clone, Copy)]
-pub enum JobAnswer {
-    Ranks { from: u64, to: u64 },
-    Refused(Refusal),
+pub struct Ranks {
+    pub from: u64,
+    pub to: u64,
 }
 
 // The ranks that job number `job` of `jobs` has to visit.
-pub fn job(wires: usize, size: usize, job: u64, jobs: u64) -> JobAnswer
+pub fn job(wires: usize, size: usize, job: u64, jobs: u64) -> Result<Ranks, Refusal>
     ensures { job_told result ≡ job_ranks wires size job jobs }
 {
-    if MAX_WIRES < wires {
-        return JobAnswer::Refused(Refusal::TooManyWires);
-    }
-    if MAX_SIZE < size {
-        return JobAnswer::Refused(Refusal::SizeTooLarge);
-    }
-    if jobs == 0 {
-        return JobAnswer::Refused(Refusal::NoSuchJob);
-    }
-    if MAX_JOBS < jobs {
-        return JobAnswer::Refused(Refusal::NoSuchJob);
-    }
-    if jobs <= job {
-        return JobAnswer::Refused(Refusal::NoSuchJob);
+    sets::within(wires, size)?;
+    if jobs == 0 || MAX_JOBS < jobs || jobs <= job {
+        return Err(Refusal::NoSuchJob);
     }
     let table = counts::table();
     let all = counts::count(&table, wires, size);
-    JobAnswer::Ranks {
+    Ok(Ranks {
         from: first_rank(all, jobs, job),
         to: first_rank(all, jobs, job + 1),
-    }
+    })
 }
 
 // The floor of i × all / jobs. The product passes 64 bits, so the quotient is put together from that of `all` and what

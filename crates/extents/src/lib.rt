@@ -33,50 +33,50 @@ pub fn extended(reports: &[u8], i: usize, size: usize, reach: u64) -> u64
     report.to
 }
 
-// Keeps a report that starts past what is covered in mind, if it is one of the nearest: `starts` rises, and `ahead` has the report of each. Nothing is
-// promised of these two lists: they only say which report to try next, and what is tried is looked at.
-pub fn note(
-    reports: &[u8],
-    i: usize,
-    size: usize,
-    reach: u64,
-    starts: &mut [u64; WINDOW],
-    ahead: &mut [usize; WINDOW],
-)
+// A report that starts past what is covered, and where it starts.
+#[derive(Clone, Copy)]
+pub struct Ahead {
+    pub start: u64,
+    pub report: usize,
+}
+
+// What stands where no report is kept in mind: nothing starts after it.
+pub const NONE_AHEAD: Ahead = Ahead {
+    start: u64::MAX,
+    report: 0,
+};
+
+// Keeps a report that starts past what is covered in mind, if it is one of the nearest: their starts rise. Nothing is promised of this list: it only says
+// which report to try next, and what is tried is looked at.
+pub fn note(reports: &[u8], i: usize, size: usize, reach: u64, ahead: &mut [Ahead; WINDOW])
     requires { i < report_count reports.now }
 {
     let report = report_at(reports, i);
     if report.size != size {
         return;
     }
-    let from = report.from;
-    if from <= reach {
+    let start = report.from;
+    if start <= reach {
         return;
     }
-    if starts[WINDOW - 1] <= from {
+    // most reports of a list in no order start past all of them
+    if ahead[WINDOW - 1].start <= start {
         return;
     }
-    let mut place = WINDOW - 1;
-    while 0 < place {
-        let lower = place - 1;
-        if starts[lower] <= from {
-            break;
-        }
-        starts[place] = starts[lower];
-        ahead[place] = ahead[lower];
-        place = lower;
+    let place = ahead.partition_point(|kept| kept.start <= start);
+    if place < WINDOW {
+        ahead[place..WINDOW].rotate_right(1);
+        ahead[place] = Ahead { start, report: i };
     }
-    starts[place] = from;
-    ahead[place] = i;
 }
 
 // How far the ranks are covered with the reports kept in mind, nearest first.
-pub fn through(reports: &[u8], size: usize, from: u64, ahead: &[usize; WINDOW]) -> u64
+pub fn through(reports: &[u8], size: usize, from: u64, ahead: &[Ahead; WINDOW]) -> u64
     ensures { Onward reports.now size from result }
 {
     let mut reach = from;
-    for i in 0..WINDOW {
-        reach = extended(reports, ahead[i], size, reach);
+    for kept in ahead {
+        reach = extended(reports, kept.report, size, reach);
     }
     reach
 }

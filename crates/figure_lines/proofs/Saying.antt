@@ -1,15 +1,11 @@
 -- The line of the function, by what its check told.
 --     Named, wrote_product, wrote_sum, wrote_last           the function's name, by what the function check says to each
---     yes_said, no_said, none_said                          what the function check's answer says
 use Prim.Native.Nat.{ℕ}
-use mathlib.Core.Path.{◌≡◌, sym, ◌∙◌, ap, subst}
+use mathlib.Core.Path.{◌≡◌, sym, subst}
 use mathlib.Core.Bool.{Bool, true, false, cond}
 use mathlib.Core.List.{List, ◌++◌}
 use Rattle.basics.specs.Quoted.{bytes}
-use Rattle.basics.specs.Told.{Told}
-use Rattle.table.specs.declared.Refusal.{Refusal}
-use Rattle.table.specs.declared.FunctionAnswer.{FunctionAnswer}
-use Rattle.table.specs.Answers.{function_told, function_check}
+use Rattle.table.specs.Answers.{function_check}
 use Rattle.pages.specs.Page.{Wrote}
 use Rattle.figure_lines.specs.Figures.{says_yes, function_line}
 
@@ -41,14 +37,3 @@ module _ (page : List ℕ) (at : ℕ) (after : List ℕ) (end : ℕ) where
     wrote_last c e f g w =
         subst (λ (b : Bool). Named b (says 2) (says 3)) (sym e)
         (subst (λ (b : Bool). Named false b (says 3)) (sym f) (subst (λ (b : Bool). Named false false b) (sym g) w))
-
--- the function check's answer, by what it tells
-pub yes_said : (answer : FunctionAnswer) (told : Told) → answer ≡ FunctionAnswer.Yes → function_told answer ≡ told → true ≡ says_yes told
-yes_said answer told given e = ap says_yes (ap function_told (sym given) ∙ e)
-
-pub no_said : (answer : FunctionAnswer) (told : Told) → answer ≡ FunctionAnswer.No → function_told answer ≡ told → false ≡ says_yes told
-no_said answer told given e = ap says_yes (ap function_told (sym given) ∙ e)
-
-pub none_said : (answer : FunctionAnswer) (told : Told) (why : Refusal) → answer ≡ FunctionAnswer.Refused why → function_told answer ≡ told
-    → false ≡ says_yes told
-none_said answer told why given e = ap says_yes (ap function_told (sym given) ∙ e)

@@ -8,7 +8,6 @@ ghost use Rattle.pages.specs.Page.{Wrote};
 ghost use Rattle.figure_lines.specs.Figures.{order_line, says_yes, function_line, refused_line};
 
 use pages::{write_named, write_text};
-use table::FunctionAnswer;
 
 // The line of a text that is turned down.
 pub fn refused_line(page: &mut [u8], number: usize, offset: usize) -> usize
@@ -35,6 +34,7 @@ pub fn order_line(page: &mut [u8], order: usize, shares: usize, masks: usize, wi
 }
 
 // The function is named once it is checked.
+// kept: a loop over numbers and names is no plainer, since the fourth name has no number; the numbers come from C (function_check)
 pub fn function_line(page: &mut [u8], at: usize, table: &[u8], shares: usize, masks: usize) -> usize
     requires { at + 32 ≤ length page.old }
     ensures wrote { Wrote page.old at (function_line table.now shares masks) page.new result }
@@ -56,10 +56,8 @@ pub fn function_line(page: &mut [u8], at: usize, table: &[u8], shares: usize, ma
 fn computes(table: &[u8], shares: usize, masks: usize, function: usize) -> bool
     ensures { result ≡ says_yes (function_check table.now shares masks function) }
 {
-    let answer = table::function_check(table, shares, masks, function);
-    match answer {
-        FunctionAnswer::Yes => true,
-        FunctionAnswer::No => false,
-        FunctionAnswer::Refused(why) => false,
-    }
+    matches!(
+        table::function_check(table, shares, masks, function),
+        Ok(true)
+    )
 }

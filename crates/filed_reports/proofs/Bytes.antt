@@ -1,65 +1,25 @@
 -- The bytes of a report.
---     report-inside     a report of a list lies within it
---     filling_is        the filling is what stands above the first two bytes of a word
---     report-read       the numbers that the code reads are the report's
 --     report-written    the writes of a report, one after the other
 --     Fits, read-written     numbers that fit their bytes are read as they were written
 --     read_at           a report that stands in a list is the one that was written
 --     reports_none, reports_more     the reports of a list, one after the other
 --     report-bytes      two reports, to the byte
 use Prim.Native.Nat.{ℕ, suc, ◌+◌, ◌*◌, ◌/◌, ◌^◌, ◌≤◌, ◌<◌}
-use native.Mathlib.Nat.{div-mul-le_self}
 use native.Mathlib.Omega.{arith}
 use mathlib.Core.Path.{◌≡◌, refl, sym, ◌∙◌, ap}
 use mathlib.Core.List.{List, [], ◌∷◌, ◌++◌, append-nil}
-use lib.ListN.{length, take, drop, get_or, length-append, length-drop, take-append-drop}
-use lib.Seq.{sets, sets-eq, drop-cons, drop-drop, drop-length, take-append-le, drop-append-le, drop-append-add}
+use lib.ListN.{length, take, drop, length-append, length-drop, take-append-drop}
+use lib.Seq.{sets, sets-eq, drop-drop, drop-length, take-append-le, drop-append-le, drop-append-add}
 use Rattle.records.specs.Words.{number, bytes_of}
-use Rattle.records.proofs.Fields.{byte_at}
 use Rattle.record_words.proofs.Written.{written_after}
 use Rattle.record_words.proofs.Encoding.{number-bytes}
 use Rattle.filed_reports.specs.declared.Report.{Report}
 use Rattle.filed_reports.specs.Bytes.{report_bytes, all_ones, report_from, report_at, report_count, bytes_of_report}
 
-pub report-inside : (reports : List ℕ) (i : ℕ) → i < report_count reports → report_bytes * i + report_bytes ≤ length reports
-report-inside reports i h =
-    let m : report_count reports * report_bytes ≤ length reports = div-mul-le_self (length reports) report_bytes in
-    omega (arith, m, h)
-
--- ---- reading
-
-filling_of : (l : List ℕ) (at a b w : ℕ) → at + 8 ≤ length l → a ≡ get_or l at 0 → a < 256 → b ≡ get_or l (at + 1) 0 → b < 256
-    → w ≡ number (take 8 (drop at l)) → w / 65536 ≡ number (take 6 (drop (at + 2) l))
-filling_of l at a b w h ea la eb lb ew =
-    let first : suc at ≡ at + 1 = omega arith in
-    let second : suc (at + 1) ≡ at + 2 = omega arith in
-    let e : number (take 8 (drop at l)) ≡ get_or l at 0 + 256 * (get_or l (at + 1) 0 + 256 * number (take 6 (drop (at + 2) l))) =
-    ap (λ (k : List ℕ). number (take 8 k))
-    (drop-cons l at 0 (omega arith) ∙ ap {B = List ℕ} (λ (n : ℕ). get_or l at 0 ∷ drop n l) first
-    ∙ ap {B = List ℕ} (λ (k : List ℕ). get_or l at 0 ∷ k)
-    (drop-cons l (at + 1) 0 (omega arith) ∙ ap {B = List ℕ} (λ (n : ℕ). get_or l (at + 1) 0 ∷ drop n l) second)) in
-    omega (arith, ea, la, eb, lb, ew, e)
-
-pub filling_is : (reports : List ℕ) (i a b w : ℕ) → i < report_count reports → a ≡ get_or reports (report_bytes * i) 0 → a < 256
-    → b ≡ get_or reports (report_bytes * i + 1) 0 → b < 256 → w ≡ number (take 8 (drop (report_bytes * i) reports))
-    → w / 65536 ≡ number (take 6 (drop (report_bytes * i + 2) reports))
-filling_is reports i a b w h =
-    let r = report-inside reports i h in filling_of reports (report_bytes * i) a b w (omega (arith, r))
-
 fields : {n n' s s' f f' a a' b b' d d' : ℕ} → n ≡ n' → s ≡ s' → f ≡ f' → a ≡ a' → b ≡ b' → d ≡ d'
     → ◌≡◌ {A = Report} (record { notion = n; size = s; filling = f; from = a; to = b; found = d })
     (record { notion = n'; size = s'; filling = f'; from = a'; to = b'; found = d' })
 fields en es ef ea eb ed = cc
-
-pub report-read : (reports : List ℕ) (i n s f a b d : ℕ) → i < report_count reports → n ≡ get_or reports (report_bytes * i) 0
-    → s ≡ get_or reports (report_bytes * i + 1) 0 → f ≡ number (take 6 (drop (report_bytes * i + 2) reports))
-    → a ≡ number (take 8 (drop (report_bytes * i + 8) reports)) → b ≡ number (take 8 (drop (report_bytes * i + 16) reports))
-    → d ≡ number (take 8 (drop (report_bytes * i + 24) reports))
-    → ◌≡◌ {A = Report} (record { notion = n; size = s; filling = f; from = a; to = b; found = d }) (report_at reports i)
-report-read reports i n s f a b d h en es ef ea eb ed =
-    let r = report-inside reports i h in
-    fields (en ∙ sym (byte_at reports (report_bytes * i) (omega (arith, r)))) (es ∙ sym (byte_at reports (report_bytes * i + 1) (omega (arith, r)))) ef
-    ea eb ed
 
 -- ---- writing
 

@@ -3,8 +3,8 @@
 --     first_rank              the least number below n that passes, or n
 --     first_place             what is told of the first place of the sizes from 1 to the order, and what else where there is none
 --     NoPlace, FirstPlace    there is none; which one it is
---     PlaceIs                the code's place is the first one; its size is 0 where there is none
-use Rattle.std.specs.Prelude.{ℕ, zero, suc, ◌≤◌, ◌<◌, ◌≡◌, Bool, true, cond, ltb}
+--     PlaceIs                the code's place is the first one; it has none where there is none
+use Rattle.std.specs.Prelude.{ℕ, zero, suc, ◌≤◌, ◌<◌, ◌≡◌, Bool, true, cond, ltb, Option, None, Some}
 use Rattle.filed_reports.specs.declared.Place.{Place}
 
 unfoldable pub first_rank : ℕ → (ℕ → Bool) → ℕ
@@ -31,6 +31,6 @@ pub record FirstPlace (all : ℕ → ℕ) (passes : ℕ → ℕ → Bool) (order
   pub smaller : (k r : ℕ) → 1 ≤ k → k < size → r < all k → passes k r ≡ true → ⊥
   pub before : (r : ℕ) → r < rank → passes size r ≡ true → ⊥
 
-pub record PlaceIs (all : ℕ → ℕ) (passes : ℕ → ℕ → Bool) (order : ℕ) (place : Place) : Type 0 where
-  pub none : place.size ≡ 0 → NoPlace all passes order
-  pub first : (place.size ≡ 0 → ⊥) → FirstPlace all passes order place.size place.rank
+abbrev pub PlaceIs : (ℕ → ℕ) → (ℕ → ℕ → Bool) → ℕ → Option Place → Type 0
+PlaceIs all passes order None = NoPlace all passes order
+PlaceIs all passes order (Some place) = FirstPlace all passes order place.size place.rank

@@ -6,11 +6,12 @@ ghost use Rattle.std.specs.Prelude.{◌≡◌, ◌<◌, length};
 ghost use Rattle.filed_reports.specs.Bytes.{report_bytes, report_at, report_count, bytes_of_report};
 
 use record_words::writing::write_number;
-use records::layout::{wide, word};
+use records::layout::word;
 
 pub const REPORT_BYTES: usize = 32;
 
 // The found rank of a report that is clean: all ones bits.
+// kept: (plainer) an `Option<u64>` has a value more than the eight bytes, and `write_report` would have to rule out `Some` of all ones bits
 pub const CLEAN: u64 = u64::MAX;
 
 const SIZE_AT: usize = 1;
@@ -47,8 +48,8 @@ pub fn report_at(reports: &[u8], i: usize) -> Report
     let at = REPORT_BYTES * i;
     // the first word is the notion, the size and the filling above these two bytes
     Report {
-        notion: wide(reports[at]) as usize,
-        size: wide(reports[at + SIZE_AT]) as usize,
+        notion: usize::from(reports[at]),
+        size: usize::from(reports[at + SIZE_AT]),
         filling: word(reports, at) / BELOW_FILLING,
         from: word(reports, at + FROM_AT),
         to: word(reports, at + TO_AT),
@@ -69,8 +70,8 @@ pub fn write_report(report: Report, bytes: &mut [u8])
     write_number(bytes, FOUND_AT, RANK_BYTES, report.found);
 }
 
-// A rank of a size; size 0 says that there is none.
-#[derive(Clone, Copy)]
+// A rank of a size. A place comes before another by its size, and then by its rank.
+#[derive(Clone, Copy, PartialEq, Eq, PartialOrd, Ord)]
 pub struct Place {
     pub size: usize,
     pub rank: u64,

@@ -64,14 +64,10 @@ pub fn all_filed(
     requires wires_le_max_wires { (wires ≤ max_wires) × (order ≤ max_size) }
     ensures { result ≡ not (any_misfiled (binom wires) notion order reports.now) }
 {
-    let number = reports.len() / REPORT_BYTES;
-    let mut i = 0;
-    while i < number {
-        let report = report_at(reports, i);
-        if !is_filed(report, counts, wires, notion, order) {
+    for i in 0..reports.len() / REPORT_BYTES {
+        if !is_filed(report_at(reports, i), counts, wires, notion, order) {
             return false;
         }
-        i += 1;
     }
     true
 }

@@ -1,5 +1,6 @@
 -- The answers of the writing of a report, path by path.
 --     notion_low, notion_high, not_taken, taken       of a report with its found rank
+--     both_are                     what it answered, from its two patterns
 --     wrong_length_lem, refused-answer, other_size, found-low, found-high, clean-filed, found-filed     of what a range check answered
 --     promised                     the whole of the promise follows from its equation
 use Prim.Native.Nat.{ℕ, ◌≤◌, ◌<◌}
@@ -10,6 +11,7 @@ use mathlib.Core.List.{List, []}
 use borrow.Author.Tests.{eq-eqb, ne_eqb, le-leb, lt-leb, lt-ltb, le-ltb, not-true, not-false}
 use lib.Dec.{eqb, leb, ltb}
 use lib.ListN.{length}
+use Rattle.std.specs.Prelude.{Result, Ok, Err}
 use Rattle.limits.specs.Limits.{max_wires, max_size}
 use Rattle.basics.specs.Told.{Lent, values, turned_down}
 use Rattle.counts.specs.Counts.{binom}
@@ -18,9 +20,9 @@ use Rattle.filed_reports.specs.Bytes.{report_bytes, all_ones, bytes_of_report}
 use Rattle.filed_reports.specs.Filed.{misfiled}
 use Rattle.filed_reports.proofs.Filed.{misfiled-exactly, filed-exactly}
 use Rattle.verdict_answers.specs.declared.Refusal.{Refusal}
-use Rattle.verdict_answers.specs.declared.RangeAnswer.{RangeAnswer}
-use Rattle.pool_answers.specs.declared.FilingAnswer.{FilingAnswer}
-use Rattle.pool_answers.specs.Answers.{report_of, filing_told, filed_as, answer_filed, filed_report}
+use Rattle.verdict_answers.specs.declared.Checked.{Checked}
+use Rattle.pool_answers.specs.declared.Refusal as pool-refusal
+use Rattle.pool_answers.specs.Answers.{report_of, filing_told, filed_as, between, answer_filed, filed_report}
 use Rattle.pool_answers.specs.Says.{FilingMeans}
 use Rattle.pool_answers.proofs.Filing.{filed_yes, filed_no, filing_means}
 
@@ -54,7 +56,10 @@ module _ (notion size from to found : ℕ) (buffer : List ℕ) where
 
 -- ---- of what a range check answered
 
-module _ (notion size from to : ℕ) (answer : RangeAnswer) (buffer : List ℕ) where
+pub both_are : {answer : Result Checked Refusal} {x y : Checked} → answer ≡ Ok x → x ≡ y → answer ≡ Ok y
+both_are e f = e ∙ ap {B = Result Checked Refusal} (λ (c : Checked). Ok c) f
+
+module _ (notion size from to : ℕ) (answer : Result Checked Refusal) (buffer : List ℕ) where
   abbrev told : Lent
   told = filed_report notion size from to answer buffer
 
@@ -63,24 +68,24 @@ module _ (notion size from to : ℕ) (answer : RangeAnswer) (buffer : List ℕ) 
       sym (ap (λ (b : Bool). cond (not b) (turned_down 25 buffer) (answer_filed notion size from to answer buffer)) (ne_eqb (length buffer) report_bytes d))
 
   module _ (long : length buffer ≡ report_bytes) where
-    rest : (a : RangeAnswer) → answer ≡ a → answer_filed notion size from to a buffer ≡ told
+    rest : (a : Result Checked Refusal) → answer ≡ a → answer_filed notion size from to a buffer ≡ told
     rest a e =
-        ap (λ (x : RangeAnswer). answer_filed notion size from to x buffer) (sym e)
+        ap (λ (x : Result Checked Refusal). answer_filed notion size from to x buffer) (sym e)
         ∙ sym (ap (λ (b : Bool). cond (not b) (turned_down 25 buffer) (answer_filed notion size from to answer buffer)) (eq-eqb (length buffer) report_bytes long))
 
-    pub refused-answer : (why : Refusal) → answer ≡ RangeAnswer.Refused why → turned_down 25 buffer ≡ filed_report notion size from to answer buffer
-    refused-answer why e = rest (RangeAnswer.Refused why) e
+    pub refused-answer : (why : Refusal) → answer ≡ Err why → turned_down 25 buffer ≡ filed_report notion size from to answer buffer
+    refused-answer why e = rest (Err why) e
 
-    pub clean-filed : answer ≡ RangeAnswer.Clean → (l : Lent) → l ≡ filed_as (report_of notion size from to all_ones) buffer
+    pub clean-filed : answer ≡ Ok Checked.Clean → (l : Lent) → l ≡ filed_as (report_of notion size from to all_ones) buffer
         → l ≡ filed_report notion size from to answer buffer
-    clean-filed e l f = f ∙ rest RangeAnswer.Clean e
+    clean-filed e l f = f ∙ rest (Ok Checked.Clean) e
 
-    module _ (k rank : ℕ) (e : answer ≡ RangeAnswer.Found k rank) where
-      by : (b : Bool) → (eqb k size && (leb from rank && ltb rank to)) ≡ b
+    module _ (k rank : ℕ) (e : answer ≡ Ok (Checked.Found k rank)) where
+      by : (b : Bool) → between size from to k rank ≡ b
           → cond (not b) (turned_down 25 buffer) (filed_as (report_of notion size from to rank) buffer) ≡ told
       by b f =
           ap (λ (x : Bool). cond (not x) (turned_down 25 buffer) (filed_as (report_of notion size from to rank) buffer)) (sym f)
-          ∙ rest (RangeAnswer.Found k rank) e
+          ∙ rest (Ok (Checked.Found k rank)) e
 
       pub other_size : (k ≡ size → ⊥) → turned_down 25 buffer ≡ filed_report notion size from to answer buffer
       other_size d = by false (ap (λ (b : Bool). b && (leb from rank && ltb rank to)) (ne_eqb k size d))
@@ -100,7 +105,7 @@ module _ (notion size from to : ℕ) (answer : RangeAnswer) (buffer : List ℕ) 
 
 -- ---- the whole of the promise
 
-pub promised : (notion size from to : ℕ) (answer : RangeAnswer) (buffer : List ℕ) (told : FilingAnswer) (held : List ℕ)
+pub promised : (notion size from to : ℕ) (answer : Result Checked Refusal) (buffer : List ℕ) (told : Result (Unit {0}) pool-refusal.Refusal) (held : List ℕ)
     → filing_told told held ≡ filed_report notion size from to answer buffer
     → (filing_told told held ≡ filed_report notion size from to answer buffer) × FilingMeans told notion size from to answer buffer held
 promised notion size from to answer buffer told held e = (e, filing_means notion size from to answer buffer told held e)

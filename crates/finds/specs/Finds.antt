@@ -1,8 +1,8 @@
 -- What reports have found.
 --     false_find, any_false     a found rank is not that of a set that passes the test, of a report and of some report of a list
 --     Findable                every found rank is below the number of sets of its size
---     comes_first              a report has found a rank that comes before a place, by size and then by rank
-use Rattle.std.specs.Prelude.{ℕ, ◌≤◌, ◌<◌, ◌≡◌, Bool, not, ◌&&◌, ◌||◌, List, ltb, eqb}
+--     comes_first              a report has found a rank that comes before a place, if there is one, by size and then by rank
+use Rattle.std.specs.Prelude.{ℕ, ◌≤◌, ◌<◌, ◌≡◌, Bool, not, ◌&&◌, ◌||◌, List, Option, None, Some, ltb, eqb}
 use Rattle.limits.specs.Limits.{max_size}
 use Rattle.basics.specs.Folds.{some, up_to}
 use Rattle.counts.specs.Counts.{binom}
@@ -24,5 +24,6 @@ pub record Findable (n : ℕ) (reports : List ℕ) : Type 0 where
   pub counted : (i : ℕ) → i < report_count reports → ((report_at reports i).found ≡ all_ones → ⊥)
       → (report_at reports i).found < binom n (report_at reports i).size
 
-unfoldable pub comes_first : Report → Place → Bool
-comes_first r p = not (is_clean r) && (eqb p.size 0 || (ltb r.size p.size || (eqb r.size p.size && ltb r.found p.rank)))
+unfoldable pub comes_first : Report → Option Place → Bool
+comes_first r None = not (is_clean r)
+comes_first r (Some p) = not (is_clean r) && (ltb r.size p.size || (eqb r.size p.size && ltb r.found p.rank))

@@ -35,11 +35,8 @@ pub fn all_break(table: &[u8], counts: &[u64; COUNTS], notion: Notion, reports: 
     requires table_len_bound { (length table.now ≤ max_table_bytes) × Findable (wire_count table.now) reports.now }
     ensures { result ≡ not (any_false (is_breaking notion table.now max_shares max_masks) (wire_count table.now) reports.now) }
 {
-    let number = reports.len() / REPORT_BYTES;
-    let mut next = 0;
-    while next < number {
+    for next in 0..reports.len() / REPORT_BYTES {
         let report = report_at(reports, next);
-        next += 1;
         if report.found != CLEAN {
             if !breaks_at(table, counts, notion, report.size, report.found) {
                 return false;
@@ -49,40 +46,36 @@ pub fn all_break(table: &[u8], counts: &[u64; COUNTS], notion: Notion, reports: 
     true
 }
 
-// Whether a report has found a rank that comes before the first so far: a smaller size, or the same and a lower rank.
-fn comes_first(report: Report, least: Place) -> bool
+// Whether a report has found a rank that comes before the first so far.
+#[tactic(auto, unfolding(crate::specs::Finds::comes_first))]
+fn comes_first(report: Report, least: Option<Place>) -> bool
     ensures { result ≡ comes_first report least }
 {
     if report.found == CLEAN {
         return false;
     }
-    if least.size == 0 {
-        return true;
+    let found = Place {
+        size: report.size,
+        rank: report.found,
+    };
+    match least {
+        None => true,
+        Some(first) => found < first,
     }
-    if report.size < least.size {
-        return true;
-    }
-    if least.size < report.size {
-        return false;
-    }
-    report.found < least.rank
 }
 
 // The smallest size, and then the lowest rank, that a report has found.
-pub fn least_found(reports: &[u8]) -> Place
+pub fn least_found(reports: &[u8]) -> Option<Place>
     ensures { (all : ℕ → ℕ) (notion order : ℕ) → any_misfiled all notion order reports.now ≡ false → PlaceIs all (reported reports.now) order result }
 {
-    let number = reports.len() / REPORT_BYTES;
-    let mut least = Place { size: 0, rank: 0 };
-    let mut next = 0;
-    while next < number {
-        let report = report_at(reports, next);
-        next += 1;
+    let mut least = None;
+    for i in 0..reports.len() / REPORT_BYTES {
+        let report = report_at(reports, i);
         if comes_first(report, least) {
-            least = Place {
+            least = Some(Place {
                 size: report.size,
                 rank: report.found,
-            };
+            });
         }
     }
     least

@@ -2,6 +2,7 @@
 --     stands-group                                 the group of a state, in the progress
 --     close_at_end, close_at_line, close_empty     no closing parenthesis, or nothing inside
 --     close_went                                   the group is an item of the one around it
+use Rattle.std.specs.Prelude.{Err}
 use Prim.Native.Nat.{ℕ, ◌+◌, ◌≤◌, ◌<◌}
 use native.Mathlib.Omega.{arith}
 use mathlib.Core.Path.{◌≡◌, refl, sym, ◌∙◌, ap, ap₂, subst}
@@ -17,7 +18,6 @@ use Rattle.description.proofs.Passing.{wrong_end, at_closing, nothing-inside}
 use Rattle.listing.specs.declared.Progress.{Progress}
 use Rattle.listing.specs.Progress.{Stands, put_progress, Follows}
 use Rattle.groups.specs.Going.{Within, Ends, CloseReads, CloseWent, outside}
-use Rattle.groups.specs.declared.Answer.TheVariants.{Stopped}
 use Rattle.groups.proofs.Reaching.{fewer, once, put-begun}
 
 pub stands-group : {table : List ℕ} {p : Progress} {s : State} → Stands table p s → s.group ≡ p.group
@@ -25,18 +25,18 @@ stands-group h = ap (λ (t : State). t.group) h.state
 
 module _ (text : List ℕ) (outer : Group) (from : ℕ) (table : List ℕ) (p : Progress) where
   pub close_at_end : (table' : List ℕ) → p.at ≡ length text → (shares declared : ℕ) → p.lines < shares
-      → CloseReads shares declared text outer from table p table' (Stopped WrongParenthesis p.at)
+      → CloseReads shares declared text outer from table p table' (Err (record { why = WrongParenthesis; offset = p.at }))
   close_at_end table' e shares declared less s around stands f =
       run_end shares declared text p.at s (omega (arith, e)) ∙ ap (λ around. finish shares p.at (line_step around s)) f
 
   pub close_at_line : (table' : List ℕ) → p.at < length text → (get_or text p.at 0 ≡ closing → ⊥) → Ends text p.at → (shares declared : ℕ)
-      → p.lines < shares → CloseReads shares declared text outer from table p table' (Stopped WrongParenthesis p.at)
+      → p.lines < shares → CloseReads shares declared text outer from table p table' (Err (record { why = WrongParenthesis; offset = p.at }))
   unfolding Ends
   close_at_line table' inside other ends shares declared less s around stands f =
       wrong_end shares declared text p.at s inside (outside shares declared text outer from) around (ends inside other) f
 
   pub close_empty : (table' : List ℕ) → p.at < length text → get_or text p.at 0 ≡ closing → p.group.filled ≡ false → (shares declared : ℕ)
-      → p.lines < shares → CloseReads shares declared text outer from table p table' (Stopped WrongParenthesis p.at)
+      → p.lines < shares → CloseReads shares declared text outer from table p table' (Err (record { why = WrongParenthesis; offset = p.at }))
   close_empty table' inside e empty shares declared less s around stands f =
       nothing-inside shares declared text p.at s inside (fewer stands less) (outside shares declared text outer from) around e f
       (ap (λ (g : Group). g.filled) (stands-group stands) ∙ empty)

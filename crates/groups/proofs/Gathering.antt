@@ -1,6 +1,6 @@
 -- The items of a group, one after the other: where the run stands before each.
 --     Gone                            what holds before each turn
---     gone-start, gone-space, gone-item       before the first, past a space, past an item
+--     gone-space                      past a space
 --     gone_stopped, gone-ended        an item that stops the run, the group's end
 --     ends-closing, ends-line, ends_text      the places where a group ends
 use Prim.Native.Nat.{ℕ, ◌+◌, ◌≤◌, ◌<◌}
@@ -14,7 +14,7 @@ use Rattle.description.specs.declared.Refusal.{Refusal}
 use Rattle.description.proofs.Passing.{at_space}
 use Rattle.listing.specs.declared.Progress.{Progress}
 use Rattle.listing.specs.Progress.{Stands}
-use Rattle.groups.specs.Going.{Within, Ends, Reached, ItemWent, GroupWent, Stops}
+use Rattle.groups.specs.Going.{Within, Ends, Reached, GroupWent, Stops}
 
 pub record Gone (shares declared : ℕ) (text : List ℕ) (room : ℕ) (table₀ : List ℕ) (p : Progress) (table : List ℕ) (q : Progress)
     (at : ℕ) : Type 0 where
@@ -25,15 +25,6 @@ pub record Gone (shares declared : ℕ) (text : List ℕ) (room : ℕ) (table₀
   pub reached : (s : State) → Stands table₀ p s → length s.around + room ≡ max_depth → Reached shares declared text p.at s s.around table q
 
 module _ (shares declared : ℕ) (text : List ℕ) (room : ℕ) (table₀ : List ℕ) (p : Progress) where
-  pub gone-start : Within (length text) p → Gone shares declared text room table₀ p table₀ p p.at
-  gone-start w = record {
-    place = refl;
-    within = w;
-    same_lines = refl;
-    forward = omega arith;
-    reached = λ s stands deep. record { state = s; stands = stands; enclosed = refl; goes = refl };
-  }
-
   module _ (table : List ℕ) (q : Progress) (at : ℕ) (g : Gone shares declared text room table₀ p table q at) where
     -- the progress past a space
     abbrev past : Progress
@@ -61,25 +52,6 @@ module _ (shares declared : ℕ) (text : List ℕ) (room : ℕ) (table₀ : List
             goes =
                 r.goes ∙ ap (λ (k : ℕ). run_at shares declared text k r.state) (sym g.place)
                 ∙ at_space shares declared text at r.state inside e;
-          };
-    }
-
-    pub gone-item : (table' : List ℕ) (next : Progress) → ItemWent shares declared text room table q table' next
-        → Gone shares declared text room table₀ p table' next next.at
-    gone-item table' next i = record {
-      place = refl;
-      within = i.within;
-      same_lines = i.same_lines ∙ g.same_lines;
-      forward = omega (arith, g.forward, g.place, i.forward);
-      reached =
-          λ s stands deep.
-          let r = g.reached s stands deep in
-          let again = i.reached r.state r.stands (ap (λ around. length around + room) r.enclosed ∙ deep) in
-          record {
-            state = again.state;
-            stands = again.stands;
-            enclosed = again.enclosed ∙ r.enclosed;
-            goes = r.goes ∙ again.goes;
           };
     }
 

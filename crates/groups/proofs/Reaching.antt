@@ -5,7 +5,8 @@
 --     word_fits, word_some     the longest run lies in the text, and is not empty where a byte does not part
 --     once, put-begun          a wire at most for each test; the first item's place after an item is put
 --     symbol-small             the symbol's bit stands within a record
---     symbol_went, symbol_unknown, symbol_undeclared     the answers to a symbol
+--     symbol_went, symbol_wrong     the answers to a run of bytes
+use Rattle.std.specs.Prelude.{Option, Some, None, Result, Ok, Err}
 use Prim.Native.Nat.{ℕ, suc, ◌+◌, ◌-◌, ◌≤◌, ◌<◌}
 use native.Mathlib.Omega.{arith}
 use mathlib.Core.Path.{◌≡◌, refl, sym, ◌∙◌, ap, subst}
@@ -26,20 +27,17 @@ use Rattle.description.specs.Bytes.{letter_s, letter_a, letter_b, parts, word}
 use Rattle.description.specs.Symbols.{name_length, mask_at, share_digit, product_read, share_read, named_read, symbol_read, symbol_length, share_of}
 use Rattle.records.specs.Layout.{plus_sum}
 use Rattle.description.specs.Listing.{put_into}
-use Rattle.description.specs.Run.{State, run_at, placed, took, symbol_item}
+use Rattle.description.specs.Run.{State, run_at, placed, took, symbol_item, symbol_refusal}
 use Rattle.description.specs.declared.Item.{Item}
 use Rattle.description.specs.declared.Group.{Group}
-use Rattle.description.specs.declared.MaskName.{MaskName}
-use Rattle.description.specs.declared.MaskName.TheVariants.{Number, NoName}
-use Rattle.description.specs.declared.SymbolAnswer.{SymbolAnswer}
-use Rattle.description.specs.declared.SymbolAnswer.TheVariants.{Known, NoSuch, NotDeclared}
-use Rattle.description.specs.declared.Refusal.TheVariants.{NoSuchSymbol, MaskNotDeclared}
+use Rattle.description.specs.declared.SymbolFault.{SymbolFault}
+use Rattle.description.specs.declared.SymbolFault.TheVariants.{NoSuch, NotDeclared}
 use Rattle.description.proofs.Names.{read_name}
 use Rattle.description.proofs.Spelling.{figure-share}
 use Rattle.description.proofs.Running.{drop_byte}
 use Rattle.description.proofs.Places.{word-rest, word-inside}
 use Rattle.description.proofs.Following.{symbol_long}
-use Rattle.description.proofs.Passing.{at_symbol, no_such, not_declared}
+use Rattle.description.proofs.Passing.{at_symbol, at_fault}
 use Rattle.listing.specs.declared.Progress.{Progress}
 use Rattle.listing.specs.Progress.{Stands, took_progress, Follows}
 use Rattle.groups.specs.Going.{Within, ItemWent, Stops}
@@ -52,19 +50,19 @@ fewer {table} {p} {s} {shares} h less = ne_eqb s.lines shares (λ e. omega (arit
 
 -- ---- symbols
 
-no_symbol : {A : Type 0} {s : Symbol} → NoSuch ≡ Known s → A
+no_symbol : {A : Type 0} {s : Symbol} → (Err NoSuch) ≡ Ok s → A
 no_symbol e = let z : ◌≡◌ {A = ℕ} 0 1 = cc in absurd (omega (arith, z))
 
 low_digit : (n c : ℕ) → n ≤ max_shares → share_digit n c ≡ true → share_of c < max_shares
 low_digit n c h e = omega (arith, ltb-true (share_of c) n (figure-share n c e).1, h)
 
 module _ (n : ℕ) (few : n ≤ max_shares) where
-  known-product : (c : ℕ) (w : List ℕ) (s : Symbol) → product_read n w ≡ Known s → (length (c ∷ w) ≡ symbol_length s) × Small s
+  known-product : (c : ℕ) (w : List ℕ) (s : Symbol) → product_read n w ≡ Ok s → (length (c ∷ w) ≡ symbol_length s) × Small s
   known-product c [] s e = no_symbol e
   known-product c (i ∷ []) s e = no_symbol e
   known-product c (i ∷ j ∷ []) s e = go (share_digit n i && share_digit n j) refl e
     where
-      go : (b : Bool) → (share_digit n i && share_digit n j) ≡ b → cond b (Known (Product (share_of i) (share_of j))) NoSuch ≡ Known s
+      go : (b : Bool) → (share_digit n i && share_digit n j) ≡ b → cond b (Ok (Product (share_of i) (share_of j))) (Err NoSuch) ≡ Ok s
           → (3 ≡ symbol_length s) × Small s
       go true t e =
           let f : Product (share_of i) (share_of j) ≡ s = cc in (
@@ -79,30 +77,30 @@ module _ (n : ℕ) (few : n ≤ max_shares) where
   known-product c (i ∷ j ∷ k ∷ l) s e = no_symbol e
 
   known-share : (share : ℕ → Symbol) → ((i : ℕ) → 2 ≡ symbol_length (share i)) → ((i : ℕ) → i < max_shares → Small (share i)) → (c : ℕ) (w : List ℕ)
-      (s : Symbol) → share_read share n w ≡ Known s → (length (c ∷ w) ≡ symbol_length s) × Small s
+      (s : Symbol) → share_read share n w ≡ Ok s → (length (c ∷ w) ≡ symbol_length s) × Small s
   known-share share two small c [] s e = no_symbol e
   known-share share two small c (i ∷ []) s e = go (share_digit n i) refl e
     where
-      go : (b : Bool) → share_digit n i ≡ b → cond b (Known (share (share_of i))) NoSuch ≡ Known s → (2 ≡ symbol_length s) × Small s
+      go : (b : Bool) → share_digit n i ≡ b → cond b (Ok (share (share_of i))) (Err NoSuch) ≡ Ok s → (2 ≡ symbol_length s) × Small s
       go true t e =
           let f : share (share_of i) ≡ s = cc in (two (share_of i) ∙ ap symbol_length f, subst Small f (small (share_of i) (low_digit n i few t)))
       go false t e = no_symbol e
   known-share share two small c (i ∷ j ∷ l) s e = no_symbol e
 
-known-mask : (declared : ℕ) (w : List ℕ) (s : Symbol) → named_read declared (length w) (mask_at w) ≡ Known s
+known-mask : (declared : ℕ) (w : List ℕ) (s : Symbol) → named_read declared (length w) (mask_at w) ≡ Ok s
     → (length w ≡ symbol_length s) × Small s
 known-mask declared w s e = go (mask_at w) refl e
   where
-    go : (name : MaskName) → mask_at w ≡ name → named_read declared (length w) name ≡ Known s → (length w ≡ symbol_length s) × Small s
-    go NoName m e = no_symbol e
-    go (Number k) m e = sized (eqb (length w) (name_length k)) refl e
+    go : (name : Option ℕ) → mask_at w ≡ name → named_read declared (length w) name ≡ Ok s → (length w ≡ symbol_length s) × Small s
+    go None m e = no_symbol e
+    go (Some k) m e = sized (eqb (length w) (name_length k)) refl e
       where
         sized : (b : Bool) → eqb (length w) (name_length k) ≡ b
-            → cond b (cond (bit declared k) (Known (Mask k)) NotDeclared) NoSuch ≡ Known s → (length w ≡ symbol_length s) × Small s
+            → cond b (cond (bit declared k) (Ok (Mask k)) (Err NotDeclared)) (Err NoSuch) ≡ Ok s → (length w ≡ symbol_length s) × Small s
         sized false t e = no_symbol e
         sized true t e = there (bit declared k) e
           where
-            there : (b : Bool) → cond b (Known (Mask k)) NotDeclared ≡ Known s → (length w ≡ symbol_length s) × Small s
+            there : (b : Bool) → cond b (Ok (Mask k)) (Err NotDeclared) ≡ Ok s → (length w ≡ symbol_length s) × Small s
             there true e =
                 let f : Mask k ≡ s = cc in
                 let low = (read_name w k m).low in
@@ -110,18 +108,18 @@ known-mask declared w s e = go (mask_at w) refl e
                 (eqb-true (length w) (name_length k) t ∙ ap symbol_length f, subst Small f less)
             there false e = let z : ◌≡◌ {A = ℕ} 0 1 = cc in absurd (omega (arith, z))
 
-symbol-known : (n declared : ℕ) (w : List ℕ) (s : Symbol) → n ≤ max_shares → symbol_read n declared w ≡ Known s
+symbol-known : (n declared : ℕ) (w : List ℕ) (s : Symbol) → n ≤ max_shares → symbol_read n declared w ≡ Ok s
     → (length w ≡ symbol_length s) × Small s
 symbol-known n declared [] s few e = no_symbol e
 symbol-known n declared (c ∷ w) s few e = product (eqb c letter_s) e
   where
-    mask : (b : Bool) → cond b (share_read ShareB n w) (named_read declared (length (c ∷ w)) (mask_at (c ∷ w))) ≡ Known s
+    mask : (b : Bool) → cond b (share_read ShareB n w) (named_read declared (length (c ∷ w)) (mask_at (c ∷ w))) ≡ Ok s
         → (length (c ∷ w) ≡ symbol_length s) × Small s
     mask true e = known-share n few ShareB (λ i. refl) (λ i h. h) c w s e
     mask false e = known-mask declared (c ∷ w) s e
 
     share : (b : Bool)
-        → cond b (share_read ShareA n w) (cond (eqb c letter_b) (share_read ShareB n w) (named_read declared (length (c ∷ w)) (mask_at (c ∷ w)))) ≡ Known s
+        → cond b (share_read ShareA n w) (cond (eqb c letter_b) (share_read ShareB n w) (named_read declared (length (c ∷ w)) (mask_at (c ∷ w)))) ≡ Ok s
         → (length (c ∷ w) ≡ symbol_length s) × Small s
     share true e = known-share n few ShareA (λ i. refl) (λ i h. h) c w s e
     share false e = mask (eqb c letter_b) e
@@ -130,7 +128,7 @@ symbol-known n declared (c ∷ w) s few e = product (eqb c letter_s) e
         → cond b (product_read n w)
         (cond (eqb c letter_a) (share_read ShareA n w)
         (cond (eqb c letter_b) (share_read ShareB n w) (named_read declared (length (c ∷ w)) (mask_at (c ∷ w)))))
-        ≡ Known s
+        ≡ Ok s
         → (length (c ∷ w) ≡ symbol_length s) × Small s
     product true e = known-product n few c w s e
     product false e = share (eqb c letter_a) e
@@ -166,7 +164,7 @@ put-begun g item n h k = go g.filled
     go true = h
     go false = k
 
--- ---- the answers to a symbol
+-- ---- the answers to a run of bytes
 
 module _ (shares declared : ℕ) (text table : List ℕ) (p : Progress) (few : shares ≤ max_shares) (w : Within (length text) p) (less : p.at < length text)
     (fewer-lines : p.lines < shares) (joined : parts (get_or text p.at 0) ≡ false) (size : ℕ)
@@ -176,28 +174,22 @@ module _ (shares declared : ℕ) (text table : List ℕ) (p : Progress) (few : s
   part = take (p.at + size - p.at) (drop p.at text)
 
   -- what was read of the text is the longest run
-  read_word : (answer : SymbolAnswer) → answer ≡ symbol_read shares declared part
+  read_word : (answer : Result Symbol SymbolFault) → answer ≡ symbol_read shares declared part
       → symbol_read shares declared (word (drop p.at text)) ≡ answer
   read_word answer e =
       let whole : p.at + size - p.at ≡ length (word (drop p.at text)) = omega (arith, sized) in
       sym (e ∙ ap (λ (k : ℕ). symbol_read shares declared (take k (drop p.at text))) whole
       ∙ ap (symbol_read shares declared) (word_taken (drop p.at text)))
 
-  pub symbol_unknown : (answer : SymbolAnswer) → answer ≡ symbol_read shares declared part → answer ≡ NoSuch
-      → (room : ℕ) → Stops shares declared text room table p NoSuchSymbol p.at
+  pub symbol_wrong : (answer : Result Symbol SymbolFault) (fault : SymbolFault) → answer ≡ symbol_read shares declared part → answer ≡ Err fault
+      → (room : ℕ) → Stops shares declared text room table p (symbol_refusal fault) p.at
   unfolding Stops
-  symbol_unknown answer e f room s stands deep =
-      no_such shares declared text p.at s less (fewer stands fewer-lines) joined (read_word answer e ∙ f)
+  symbol_wrong answer fault e f room s stands deep =
+      at_fault shares declared text p.at s less (fewer stands fewer-lines) joined fault (read_word answer e ∙ f)
 
-  pub symbol_undeclared : (answer : SymbolAnswer) → answer ≡ symbol_read shares declared part → answer ≡ NotDeclared
-      → (room : ℕ) → Stops shares declared text room table p MaskNotDeclared p.at
-  unfolding Stops
-  symbol_undeclared answer e f room s stands deep =
-      not_declared shares declared text p.at s less (fewer stands fewer-lines) joined (read_word answer e ∙ f)
-
-  module _ (answer : SymbolAnswer) (symbol : Symbol) (e : answer ≡ symbol_read shares declared part)
-      (f : answer ≡ Known symbol) where
-    there : symbol_read shares declared (word (drop p.at text)) ≡ Known symbol
+  module _ (answer : Result Symbol SymbolFault) (symbol : Symbol) (e : answer ≡ symbol_read shares declared part)
+      (f : answer ≡ Ok symbol) where
+    there : symbol_read shares declared (word (drop p.at text)) ≡ Ok symbol
     there = read_word answer e ∙ f
 
     long : (length (word (drop p.at text)) ≡ symbol_length symbol) × Small symbol

@@ -7,18 +7,17 @@
 --     ItemWent, GroupWent, CloseWent, Stops    where the reading goes on; where it stops
 --     ItemReads, GroupReads, CloseReads        what the answer of each part says
 --     entered           the progress past an opening parenthesis
-use Rattle.std.specs.Prelude.{ℕ, ◌+◌, ◌≤◌, ◌<◌, ◌≡◌, List, ◌∷◌, length, get_or}
+use Rattle.std.specs.Prelude.{ℕ, ◌+◌, ◌≤◌, ◌<◌, ◌≡◌, List, ◌∷◌, length, get_or, Result, Ok, Err}
 use Rattle.limits.specs.Limits.{max_shares, max_table_bytes}
 use Rattle.record_words.specs.Symbols.{Small}
 use Rattle.description.specs.Bytes.{space, line_end, closing}
 use Rattle.description.specs.Listing.{empty_group}
 use Rattle.description.specs.Run.{Around, State, refused, run_at, max_text, max_depth}
+use Rattle.description.specs.declared.Fault.{Fault}
 use Rattle.description.specs.declared.Group.{Group}
 use Rattle.description.specs.declared.Refusal.{Refusal}
 use Rattle.listing.specs.declared.Progress.{Progress}
 use Rattle.listing.specs.Progress.{Stands}
-use Rattle.groups.specs.declared.Answer.{Answer}
-use Rattle.groups.specs.declared.Answer.TheVariants.{Went, Stopped}
 
 -- each wire has a byte of its own before it, but those of the lines' ends
 pub record Within (size : ℕ) (p : Progress) : Type 0 where
@@ -78,13 +77,13 @@ module _ (shares declared : ℕ) (text : List ℕ) where
   Stops room table p why offset =
       (s : State) → Stands table p s → length s.around + room ≡ max_depth → run_at shares declared text p.at s ≡ refused why offset
 
-  abbrev pub ItemReads : ℕ → List ℕ → Progress → List ℕ → Answer → Type 0
-  ItemReads room table p table' (Went q) = ItemWent room table p table' q
-  ItemReads room table p table' (Stopped why offset) = Stops room table p why offset
+  abbrev pub ItemReads : ℕ → List ℕ → Progress → List ℕ → Result Progress Fault → Type 0
+  ItemReads room table p table' (Ok q) = ItemWent room table p table' q
+  ItemReads room table p table' (Err fault) = Stops room table p fault.why fault.offset
 
-  abbrev pub GroupReads : ℕ → List ℕ → Progress → List ℕ → Answer → Type 0
-  GroupReads room table p table' (Went q) = GroupWent room table p table' q
-  GroupReads room table p table' (Stopped why offset) = Stops room table p why offset
+  abbrev pub GroupReads : ℕ → List ℕ → Progress → List ℕ → Result Progress Fault → Type 0
+  GroupReads room table p table' (Ok q) = GroupWent room table p table' q
+  GroupReads room table p table' (Err fault) = Stops room table p fault.why fault.offset
 
   -- the group around, and the place of the parenthesis opened in it
   abbrev pub outside : Group → ℕ → Around
@@ -97,8 +96,8 @@ module _ (shares declared : ℕ) (text : List ℕ) where
     pub reached : (s : State) (around : List Around) → Stands table p s → s.around ≡ outside outer from ∷ around
         → Reached shares declared text p.at s around table' q
 
-  abbrev pub CloseReads : Group → ℕ → List ℕ → Progress → List ℕ → Answer → Type 0
-  CloseReads outer from table p table' (Went q) = CloseWent outer from table p table' q
-  CloseReads outer from table p table' (Stopped why offset) =
+  abbrev pub CloseReads : Group → ℕ → List ℕ → Progress → List ℕ → Result Progress Fault → Type 0
+  CloseReads outer from table p table' (Ok q) = CloseWent outer from table p table' q
+  CloseReads outer from table p table' (Err fault) =
       (s : State) (around : List Around) → Stands table p s → s.around ≡ outside outer from ∷ around
-      → run_at shares declared text p.at s ≡ refused why offset
+      → run_at shares declared text p.at s ≡ refused fault.why fault.offset

@@ -8,17 +8,10 @@ ghost use Rattle.description.specs.Bytes.{parts};
 ghost use Rattle.description.specs.Run.{max_text, max_depth};
 ghost use Rattle.groups.specs.Going.{Within, Sized, ItemByte, ItemReads, GroupReads, CloseReads, Ends, entered};
 
-use description::{Group, Item, PlacedSymbol, Refusal, SymbolAnswer};
+use description::{Fault, Group, Item, PlacedSymbol, Refusal};
 use listing::{Progress, empty_group, put_item, take_symbol};
 use symbol_tokens::symbol_of;
 use tokens::bytes::{LINE_END, word_size};
-
-// How far the reading went, or why it stopped and where.
-#[derive(Clone, Copy)]
-pub enum Answer {
-    Went(Progress),
-    Stopped(Refusal, usize),
-}
 
 // The symbol at the place reached, as an item.
 fn symbol_item(
@@ -27,7 +20,7 @@ fn symbol_item(
     shares: usize,
     declared: u64,
     progress: Progress,
-) -> Answer
+) -> Result<Progress, Fault>
     requires sized { Sized text.now table.old shares }
     requires within { Within (length text.now) progress × (progress.at < length text.now) × (progress.lines < shares) }
     requires at_value { parts (get_or text.now progress.at 0) ≡ false }
@@ -35,17 +28,18 @@ fn symbol_item(
 {
     let at = progress.at;
     let size = word_size(text, at);
-    let read = symbol_of(&text[at..at + size], shares, declared);
-    match read {
-        SymbolAnswer::NoSuch => Answer::Stopped(Refusal::NoSuchSymbol, at),
-        SymbolAnswer::NotDeclared => Answer::Stopped(Refusal::MaskNotDeclared, at),
-        SymbolAnswer::Known(symbol) => {
+    match symbol_of(&text[at..at + size], shares, declared) {
+        Ok(symbol) => {
             let known = PlacedSymbol {
                 place: at,
                 symbol: symbol,
             };
-            Answer::Went(take_symbol(table, progress, known))
+            Ok(take_symbol(table, progress, known))
         }
+        Err(fault) => Err(Fault {
+            why: Refusal::from(fault),
+            offset: at,
+        }),
     }
 }
 
@@ -62,21 +56,36 @@ fn enter(progress: Progress) -> Progress
 }
 
 // The end of a group that was opened at a place inside another: it is an item of the one around it.
-fn close(text: &[u8], table: &mut [u8], outer: Group, from: usize, inner: Progress) -> Answer
+fn close(
+    text: &[u8],
+    table: &mut [u8],
+    outer: Group,
+    from: usize,
+    inner: Progress,
+) -> Result<Progress, Fault>
     requires text_len_bound { (length text.now ≤ max_text) × (length table.old ≡ max_table_bytes) }
     requires within { Within (length text.now) inner × Ends text.now inner.at × (outer.first ≤ from) × (from < inner.at) × (inner.lines < max_shares) }
     ensures { (shares declared : ℕ) → inner.lines < shares → CloseReads shares declared text.now outer from table.old inner table.new result }
 {
     let at = inner.at;
     if at == text.len() {
-        return Answer::Stopped(Refusal::WrongParenthesis, at);
+        return Err(Fault {
+            why: Refusal::WrongParenthesis,
+            offset: at,
+        });
     }
     if text[at] != b')' {
-        return Answer::Stopped(Refusal::WrongParenthesis, at);
+        return Err(Fault {
+            why: Refusal::WrongParenthesis,
+            offset: at,
+        });
     }
     let group = inner.group;
     if !group.filled {
-        return Answer::Stopped(Refusal::WrongParenthesis, at);
+        return Err(Fault {
+            why: Refusal::WrongParenthesis,
+            offset: at,
+        });
     }
     let sum = group.sum;
     let mut next = inner;
@@ -86,7 +95,7 @@ fn close(text: &[u8], table: &mut [u8], outer: Group, from: usize, inner: Progre
         from: from,
         end: at + 1,
     };
-    Answer::Went(put_item(table, next, item))
+    Ok(put_item(table, next, item))
 }
 
 // The item at the place reached: a symbol, or a group in parentheses. So many more parentheses may be opened.
@@ -98,7 +107,7 @@ fn item(
     declared: u64,
     progress: Progress,
     room: usize,
-) -> Answer
+) -> Result<Progress, Fault>
     requires sized { Sized text.now table.old shares }
     requires within { Within (length text.now) progress × (progress.at < length text.now) × (progress.lines < shares) × (room ≤ max_depth) }
     requires item_byte { ItemByte (get_or text.now progress.at 0) }
@@ -107,22 +116,23 @@ fn item(
     let at = progress.at;
     let byte = text[at];
     if byte == b'|' {
-        return Answer::Stopped(Refusal::Bar, at);
+        return Err(Fault {
+            why: Refusal::Bar,
+            offset: at,
+        });
     }
     if byte != b'(' {
         return symbol_item(text, table, shares, declared, progress);
     }
     if room == 0 {
-        return Answer::Stopped(Refusal::NestedTooDeep, at);
+        return Err(Fault {
+            why: Refusal::NestedTooDeep,
+            offset: at,
+        });
     }
-    let inside = group(text, table, shares, declared, enter(progress), room - 1);
-    match inside {
-        Answer::Stopped(why, offset) => Answer::Stopped(why, offset),
-        Answer::Went(inner) => {
-            let outer = progress.group;
-            close(text, table, outer, at, inner)
-        }
-    }
+    let inner = group(text, table, shares, declared, enter(progress), room - 1)?;
+    let outer = progress.group;
+    close(text, table, outer, at, inner)
 }
 
 // The items of a group from the place reached on, up to a closing parenthesis or a line's end, which is left.
@@ -134,7 +144,7 @@ pub fn group(
     declared: u64,
     progress: Progress,
     room: usize,
-) -> Answer
+) -> Result<Progress, Fault>
     requires sized { Sized text.now table.old shares }
     requires within { Within (length text.now) progress × (progress.lines < shares) × (room ≤ max_depth) }
     ensures { GroupReads shares declared text.now room table.old progress table.new result }
@@ -144,25 +154,17 @@ pub fn group(
     while at < text.len() {
         let byte = text[at];
         if byte == b')' {
-            return Answer::Went(here);
+            return Ok(here);
         }
         if byte == LINE_END {
-            return Answer::Went(here);
+            return Ok(here);
         }
         if byte == b' ' {
             here.at = at + 1;
         } else {
-            let read = item(text, table, shares, declared, here, room);
-            match read {
-                Answer::Stopped(why, offset) => {
-                    return Answer::Stopped(why, offset);
-                }
-                Answer::Went(next) => {
-                    here = next;
-                }
-            }
+            here = item(text, table, shares, declared, here, room)?;
         }
         at = here.at;
     }
-    Answer::Went(here)
+    Ok(here)
 }

@@ -1,44 +1,27 @@
 -- The names of the second header line, from a place of the text on.
---     not-closed_past, not-closed, not-ended, is-closed     the bracket that closes the list, and the line's end
---     not-parted-short, not-parted, parted_by, parted-fits     a comma and a space, and that they are within the text
+--     not-parted-short, parted-fits      no comma and a space: too few bytes; they are within the text
 --     no_more-names, no_name, twice      a wrong line: its end where a name has to stand, no name there, one that was given before
+--     larger_max                         the larger of two numbers is the library's greatest
 --     with_mask                          the declared masks, and one more
 --     last_name, next_name               a name after which the list ends, after which another has to stand
-use Prim.Native.Nat.{ℕ, zero, suc, ◌+◌, ◌-◌, ◌*◌, ◌/◌, ◌%◌, ◌^◌, ◌≤◌, ◌<◌}
+use Rattle.std.specs.Prelude.{Some, None}
+use Prim.Native.Nat.{ℕ, zero, suc, max, ◌+◌, ◌-◌, ◌*◌, ◌/◌, ◌%◌, ◌^◌, ◌≤◌, ◌<◌}
 use native.Mathlib.Nat.{not-suc-le-zero, le_of_suc-le-suc, mod-eq_of_lt}
 use native.Mathlib.Omega.{arith}
 use mathlib.Core.Path.{◌≡◌, refl, sym, ◌∙◌, ap}
-use mathlib.Core.Bool.{Bool, true, false, cond, ◌&&◌, false≢true}
+use mathlib.Core.Bool.{Bool, true, false, cond, false≢true}
 use mathlib.Core.List.{List, [], ◌∷◌}
-use borrow.Author.Tests.{eq-eqb, ne_eqb}
+use borrow.Author.Tests.{eq-eqb, ne_eqb, ltb-true, ltb-false}
 use lib.Bits.{bit_xor}
-use lib.Dec.{eqb}
-use lib.ListN.{length, drop, get_or, drop_of_length-le, length-drop}
+use lib.Dec.{ltb}
+use lib.ListN.{length, drop, drop_of_length-le, length-drop}
 use lib.Pow.{pow-lt}
 use lib.Seq.{drop-drop}
 use Rattle.records.specs.Words.{bit}
-use Rattle.description.specs.Bytes.{ended}
 use Rattle.description.specs.Symbols.{name_length, mask_at}
-use Rattle.description.specs.Header.{closed, masks_of, larger, parted, NameStep, next, ends, after_name, named_step, name_step, names_from}
-use Rattle.description.specs.declared.MaskName.TheVariants.{Number, NoName}
-use Rattle.description.specs.declared.MasksLine.{MasksLine}
+use Rattle.description.specs.Header.{closed, larger, parted, NameStep, next, ends, after_name, named_step, name_step, names_from}
 use Rattle.description.proofs.Running.{drop_byte}
 use Rattle.symbol_tokens.proofs.MaskNames.{name_within}
-
-module _ (text : List ℕ) (declared count at : ℕ) where
-  pub not-closed_past : length text ≤ at → closed declared count at (drop at text) ≡ MasksLine.Wrong
-  not-closed_past h = ap (closed declared count at) (drop_of_length-le text h)
-
-  module _ (inside : at < length text) where
-    pub not-closed : (get_or text at 0 ≡ 93 → ⊥) → closed declared count at (drop at text) ≡ MasksLine.Wrong
-    not-closed n = rw (drop_byte text at inside) (simp (ne_eqb _ _ n))
-
-    pub not-ended : get_or text at 0 ≡ 93 → ended (drop (at + 1) text) ≡ false → closed declared count at (drop at text) ≡ MasksLine.Wrong
-    not-ended e n = rw (drop_byte text at inside) (simp (eq-eqb _ _ e, n))
-
-    pub is-closed : get_or text at 0 ≡ 93 → ended (drop (at + 1) text) ≡ true
-        → closed declared count at (drop at text) ≡ MasksLine.Declared (masks_of declared count (at + 1))
-    is-closed e n = rw (drop_byte text at inside) (simp (eq-eqb _ _ e, n))
 
 module _ (text : List ℕ) (at : ℕ) where
   pub not-parted-short : length text - at < 2 → parted (drop at text) ≡ false
@@ -48,15 +31,6 @@ module _ (text : List ℕ) (at : ℕ) where
       short [] h = refl
       short (c ∷ []) h = refl
       short (c ∷ d ∷ l) h = absurd (omega (arith, h))
-
-  both : at + 1 < length text → parted (drop at text) ≡ (eqb (get_or text at 0) 44 && eqb (get_or text (at + 1) 0) 32)
-  both inside = rw (drop_byte text at (omega arith), drop_byte text (at + 1) inside)
-
-  pub not-parted : at + 1 < length text → (get_or text at 0 ≡ 44 → ⊥) → parted (drop at text) ≡ false
-  not-parted inside n = both inside ∙ ap (λ (b : Bool). b && eqb (get_or text (at + 1) 0) 32) (ne_eqb _ _ n)
-
-  pub parted_by : at + 1 < length text → get_or text at 0 ≡ 44 → parted (drop at text) ≡ eqb (get_or text (at + 1) 0) 32
-  parted_by inside e = both inside ∙ ap (λ (b : Bool). b && eqb (get_or text (at + 1) 0) 32) (eq-eqb _ _ e)
 
 pub parted-fits : (text : List ℕ) (at : ℕ) → parted (drop at text) ≡ true → at + 2 ≤ length text
 parted-fits text at e = omega (arith, two (drop at text) e, length-drop at text)
@@ -75,6 +49,13 @@ with_mask declared k = bit_xor declared (1 * 2 ^ k % 18446744073709551616)
 one_bit : (k : ℕ) → k < 64 → 1 * 2 ^ k % 18446744073709551616 ≡ 2 ^ k
 one_bit k h = let e : 1 * 2 ^ k ≡ 2 ^ k = omega arith in ap (λ (x : ℕ). x % 18446744073709551616) e ∙ mod-eq_of_lt (pow-lt h)
 
+pub larger_max : (m n : ℕ) → max m n ≡ larger m n
+larger_max m n = go (ltb m n) refl
+  where
+    go : (b : Bool) → ltb m n ≡ b → max m n ≡ cond {A = ℕ} b n m
+    go true e = omega (arith, ltb-true m n e)
+    go false e = omega (arith, ltb-false m n e)
+
 names_passed : (declared count at pass : ℕ) (l : List ℕ) → pass ≤ length l
     → names_from declared count at pass l ≡ names_from declared count (at + pass) 0 (drop pass l)
 unfolding names_from
@@ -85,7 +66,7 @@ names_passed declared count at (suc pass) (c ∷ l) h =
     names_passed declared count (at + 1) pass l (le_of_suc-le-suc h) ∙ ap (λ (k : ℕ). names_from declared count k 0 (drop pass l)) e
 
 module _ (text : List ℕ) (declared count at : ℕ) where
-  pub no_more-names : length text ≤ at → names_from declared count at 0 (drop at text) ≡ MasksLine.Wrong
+  pub no_more-names : length text ≤ at → names_from declared count at 0 (drop at text) ≡ None
   unfolding names_from
   no_more-names h = ap (names_from declared count at 0) (drop_of_length-le text h)
 
@@ -101,19 +82,19 @@ module _ (text : List ℕ) (declared count at : ℕ) where
         elim x [ next d m pass ↦ names_from d m (at + 1) pass (drop (at + 1) text) | ends line ↦ line ])
         (ap (name_step declared count at) (sym (drop_byte text at inside)) ∙ e)
 
-    pub no_name : mask_at (drop at text) ≡ NoName → names_from declared count at 0 (drop at text) ≡ MasksLine.Wrong
-    no_name e = turn (ends MasksLine.Wrong) (ap (named_step declared count at (drop at text)) e)
+    pub no_name : mask_at (drop at text) ≡ None → names_from declared count at 0 (drop at text) ≡ None
+    no_name e = turn (ends None) (ap (named_step declared count at (drop at text)) e)
 
-    module _ (k : ℕ) (e : mask_at (drop at text) ≡ Number k) where
-      pub twice : declared / 2 ^ k % 2 ≡ 1 → names_from declared count at 0 (drop at text) ≡ MasksLine.Wrong
+    module _ (k : ℕ) (e : mask_at (drop at text) ≡ Some k) where
+      pub twice : declared / 2 ^ k % 2 ≡ 1 → names_from declared count at 0 (drop at text) ≡ None
       unfolding bit
-      twice b = turn (ends MasksLine.Wrong) (ap (named_step declared count at (drop at text)) e ∙ simp (eq-eqb (declared / 2 ^ k % 2) 1 b))
+      twice b = turn (ends None) (ap (named_step declared count at (drop at text)) e ∙ simp (eq-eqb (declared / 2 ^ k % 2) 1 b))
 
       module _ (new : declared / 2 ^ k % 2 ≡ 1 → ⊥) (size m : ℕ) (v : size ≡ name_length k) (w : m ≡ larger count (k + 1)) where
         declares : name_step declared count at (drop at text) ≡ after_name (with_mask declared k) m at size (drop (at + size) text)
         unfolding bit
         declares =
-            let fresh : named_step declared count at (drop at text) (Number k)
+            let fresh : named_step declared count at (drop at text) (Some k)
             ≡ after_name (bit_xor declared (2 ^ k)) (larger count (k + 1)) at (name_length k) (drop (name_length k) (drop at text))
             = simp (ne_eqb (declared / 2 ^ k % 2) 1 new)
             in

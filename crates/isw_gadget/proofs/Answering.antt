@@ -11,6 +11,7 @@ use mathlib.Core.Logic.{◌⊎◌, inl, inr}
 use mathlib.Core.List.{List, [], ◌∷◌}
 use lib.ListN.{length, length-append, take, drop}
 use lib.Seq.{take-append_seam, drop-append_seam}
+use Rattle.std.specs.Prelude.{Result, Ok, Err}
 use Rattle.limits.specs.Limits.{record_bytes}
 use Rattle.basics.specs.Told.{Lent, values, turned_down}
 use Rattle.basics.specs.Conditions.{SettlesLent, First, None}
@@ -26,7 +27,6 @@ use Rattle.isw_gadget.specs.Says.{IswSpelled}
 use Rattle.isw_gadget.specs.Answers.{max_isw_order, refusal_number, isw_told, isw_written, isw_conditions}
 use Rattle.isw_gadget.specs.Reads.{isw_wires, ReadAsProduct, IswSays}
 use Rattle.isw_gadget.specs.declared.Refusal.{Refusal}
-use Rattle.isw_gadget.specs.declared.IswAnswer.{IswAnswer}
 use Rattle.isw_gadget.proofs.Reading.{written-fits, isw_reads}
 use Rattle.isw_gadget.proofs.Exactly.{isw_spelled, spelled-once}
 
@@ -51,23 +51,23 @@ module _ (order : ℕ) (buffer : List ℕ) where
 
   -- ---- what an answer says
 
-  module _ (answer : IswAnswer) (held : List ℕ) (e : isw_told answer held ≡ isw_written order buffer) where
+  module _ (answer : Result ℕ Refusal) (held : List ℕ) (e : isw_told answer held ≡ isw_written order buffer) where
     -- a length is told: no condition holds, and the text stands in the buffer
-    written_none : (size : ℕ) → answer ≡ IswAnswer.Written size → None (isw_conditions order buffer)
+    written_none : (size : ℕ) → answer ≡ Ok size → None (isw_conditions order buffer)
     written_none size f =
         isw_settled.settles.answered.0
-        (size ∷ [], ap (λ (l : Lent). l.told) (sym e) ∙ ap (λ (a : IswAnswer). (isw_told a held).told) f)
+        (size ∷ [], ap (λ (l : Lent). l.told) (sym e) ∙ ap (λ (a : Result ℕ Refusal). (isw_told a held).told) f)
 
-    written-shown : (size : ℕ) → answer ≡ IswAnswer.Written size → (size ≡ length (isw_text order)) × (held ≡ shown.held)
+    written-shown : (size : ℕ) → answer ≡ Ok size → (size ≡ length (isw_text order)) × (held ≡ shown.held)
     written-shown size f =
-        let same : isw_told (IswAnswer.Written size) held ≡ shown =
-        ap (λ (a : IswAnswer). isw_told a held) (sym f) ∙ e ∙ isw_chain.1.none (written_none size f) in
+        let same : isw_told (Ok size) held ≡ shown =
+        ap (λ (a : Result ℕ Refusal). isw_told a held) (sym f) ∙ e ∙ isw_chain.1.none (written_none size f) in
         (first-value same, ap (λ (l : Lent). l.held) same)
       where
-        first-value : isw_told (IswAnswer.Written size) held ≡ shown → size ≡ length (isw_text order)
+        first-value : isw_told (Ok size) held ≡ shown → size ≡ length (isw_text order)
         first-value same = let t : values (size ∷ []) ≡ values (length (isw_text order) ∷ []) = ap (λ (l : Lent). l.told) same in cc
 
-    text_stands : (size : ℕ) → answer ≡ IswAnswer.Written size → (take size held ≡ isw_text order) × (drop size held ≡ drop size buffer)
+    text_stands : (size : ℕ) → answer ≡ Ok size → (take size held ≡ isw_text order) × (drop size held ≡ drop size buffer)
     text_stands size f =
         let s = written-shown size f in (
           ap₂ (λ (k : ℕ) (l : List ℕ). take k l) s.0 s.1 ∙ take-append_seam (isw_text order) (drop (length (isw_text order)) buffer),
@@ -75,24 +75,24 @@ module _ (order : ℕ) (buffer : List ℕ) where
               ∙ ap (λ (k : ℕ). drop k buffer) (sym s.0),
         )
 
-    text_fits : (size : ℕ) → answer ≡ IswAnswer.Written size → size ≤ length held
+    text_fits : (size : ℕ) → answer ≡ Ok size → size ≤ length held
     text_fits size f =
         let s = written-shown size f in
         let long = s.0 in
         let all = ap length s.1 ∙ length-append (isw_text order) (drop (length (isw_text order)) buffer) in
         omega (arith, long, all)
 
-    order-written : (size : ℕ) → answer ≡ IswAnswer.Written size → (1 ≤ order) × (order ≤ max_isw_order)
+    order-written : (size : ℕ) → answer ≡ Ok size → (1 ≤ order) × (order ≤ max_isw_order)
     order-written size f =
         let none = written_none size f in
         let low : order < 1 → ⊥ = λ h. none.0 (inl h) in
         let high : max_isw_order < order → ⊥ = λ h. none.0 (inr h) in
         (omega arith, omega arith)
 
-    refused-first : (why : Refusal) → answer ≡ IswAnswer.Refused why → First (isw_conditions order buffer) (refusal_number why)
+    refused-first : (why : Refusal) → answer ≡ Err why → First (isw_conditions order buffer) (refusal_number why)
     refused-first why f =
         (isw_settled.settles.refused (refusal_number why)).0
-        (ap (λ (l : Lent). l.told) (sym e) ∙ ap (λ (a : IswAnswer). (isw_told a held).told) f)
+        (ap (λ (l : Lent). l.told) (sym e) ∙ ap (λ (a : Result ℕ Refusal). (isw_told a held).told) f)
 
     -- the text of an order that is written fits a buffer for the longest text
     room-enough : (n : ℕ) → First (isw_conditions order buffer) n → max_text ≤ length buffer → (order < 1) ⊎ (max_isw_order < order)
@@ -116,14 +116,14 @@ module _ (order : ℕ) (buffer : List ℕ) where
           let o = order-written size f in
           subst (ReadAsProduct order) (sym (text_stands size f).0) (isw_reads order (written-fits order o.0 o.1));
       kept = λ why f.
-          ap (λ (a : IswAnswer). (isw_told a held).held) (sym f) ∙ ap (λ (l : Lent). l.held) e
-          ∙ isw_settled.kept (refusal_number why) (ap (λ (l : Lent). l.told) (sym e) ∙ ap (λ (a : IswAnswer). (isw_told a held).told) f);
+          ap (λ (a : Result ℕ Refusal). (isw_told a held).held) (sym f) ∙ ap (λ (l : Lent). l.held) e
+          ∙ isw_settled.kept (refusal_number why) (ap (λ (l : Lent). l.told) (sym e) ∙ ap (λ (a : Result ℕ Refusal). (isw_told a held).told) f);
       enough = λ why f. room-enough (refusal_number why) (refused-first why f);
     }
 
 -- ---- what a caller has of it, whatever the answer says it by
 
-module _ (answer : IswAnswer) (order : ℕ) (buffer held : List ℕ) (says : IswSays answer order buffer held) (size : ℕ) (e : answer ≡ IswAnswer.Written size)
+module _ (answer : Result ℕ Refusal) (order : ℕ) (buffer held : List ℕ) (says : IswSays answer order buffer held) (size : ℕ) (e : answer ≡ Ok size)
   where
     -- reading tells this, whatever table of so many bytes is lent, and the function check then says yes to the product
     pub says_read : (table : List ℕ) → record_bytes * isw_wires order ≤ length table

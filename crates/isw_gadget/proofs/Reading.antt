@@ -5,6 +5,7 @@
 --     isw_wires_lem          so many wires
 --     isw_value          the outer wires' values add up to the product
 --     isw_reads          it is read as the product
+use Rattle.std.specs.Prelude.{Ok}
 use Prim.Native.Nat.{ℕ, ◌+◌, ◌*◌, ◌≤◌}
 use native.Mathlib.Omega.{arith}
 use mathlib.Core.Path.{◌≡◌, refl, sym, ◌∙◌, ap, ap₂, subst}
@@ -38,7 +39,7 @@ use Rattle.description.proofs.Counting.{all_symbols, single, lines-count}
 use Rattle.description.proofs.Events.{whole}
 use Rattle.reader.specs.Answers.{gives, ReadLent, read_text}
 use Rattle.reader.specs.Reads.{ReadsGrammar}
-use Rattle.scratch_reader.specs.declared.ReadAnswer.{ReadAnswer}
+use Rattle.scratch_reader.specs.declared.Reading.{Reading as Figures}
 use Rattle.reader.proofs.Telling.{large-enough, reads_grammar}
 use Rattle.isw_gadget.specs.Pairs.{pairs}
 use Rattle.isw_gadget.specs.Text.{isw_text}
@@ -162,14 +163,18 @@ module _ (d : ℕ) (f : Fits d) where
         (large-enough (isw_text d) table d (pairs d) (wires_of laid_isw) isw_reading (omega (arith, few, size)) (omega (arith, room, size)))
         ∙ ap (gives d (d + 1) (pairs d)) isw_wires_lem
 
-    grammar : ReadsGrammar (ReadAnswer.Read d (d + 1) (pairs d) (isw_wires d)) (isw_text d) (length table) held
+    -- what is given of it
+    abbrev given : Figures
+    given = record { order = d; shares = d + 1; masks = pairs d; wires = isw_wires d }
+
+    grammar : ReadsGrammar (Ok given) (isw_text d) (length table) held
     grammar =
-        reads_grammar (isw_text d) table (ReadAnswer.Read d (d + 1) (pairs d) (isw_wires d)) held
+        reads_grammar (isw_text d) table (Ok given) held
         (ap (λ t. record { told = t; held = held }) (sym told))
 
     same-wires : wires (take (record_bytes * isw_wires d) held) ≡ map wire_of (wires_of laid_isw)
     same-wires =
-        (grammar.read-gives d (d + 1) (pairs d) (isw_wires d) refl laid_isw
+        (grammar.read-gives given refl laid_isw
         (subst (λ (l : List ℕ). Spells l laid_isw) (isw_printed d) (printed-spells (isw d) isw_printable isw_limits))).same-wires
 
     sum_is : AddUpTo 1 (d + 1) (pairs d) (wires (take (record_bytes * isw_wires d) held))
@@ -178,7 +183,7 @@ module _ (d : ℕ) (f : Fits d) where
     says_product : function_check (take (record_bytes * isw_wires d) held) (d + 1) (pairs d) 1 ≡ values (1 ∷ [])
     says_product =
         let records = take (record_bytes * isw_wires d) held in
-        let sound = (accepted_exactly records (d + 1) (pairs d)).0 (sym (grammar.read-passes d (d + 1) (pairs d) (isw_wires d) refl)) in
+        let sound = (accepted_exactly records (d + 1) (pairs d)).0 (sym (grammar.read-passes given refl)) in
         (function_chain records (d + 1) (pairs d) 1).none
         (sound_none records (d + 1) (pairs d) sound (⊎_elim (λ h. omega (arith, h)) (λ h. omega (arith, h)), tt))
         ∙ ap (λ (b : Bool). values (one_if b ∷ [])) ((computes-exactly 1 (d + 1) (pairs d) (wires records)).1 sum_is)

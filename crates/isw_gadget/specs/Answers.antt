@@ -4,12 +4,11 @@
 --     isw_told          what the code's answer tells
 --     isw_written       what the entry is to tell, and what the buffer is to hold
 --     isw_conditions    what it turns down, in the order in which it is tested
-use Rattle.std.specs.Prelude.{ℕ, ◌<◌, ◌⊎◌, cond, ◌||◌, List, [], ◌∷◌, ◌++◌, ltb, length, drop}
+use Rattle.std.specs.Prelude.{Result, Ok, Err, ℕ, ◌<◌, ◌⊎◌, cond, ◌||◌, List, [], ◌∷◌, ◌++◌, ltb, length, drop}
 use Rattle.basics.specs.Told.{Lent, values, refusal, turned_down}
 use Rattle.basics.specs.Conditions.{Condition, ◌when◌}
 use Rattle.isw_gadget.specs.Text.{isw_text}
 use Rattle.isw_gadget.specs.declared.Refusal.{Refusal}
-use Rattle.isw_gadget.specs.declared.IswAnswer.{IswAnswer}
 
 abbrev pub max_isw_order : ℕ
 max_isw_order = 7
@@ -18,9 +17,9 @@ abbrev pub refusal_number : Refusal → ℕ
 refusal_number Refusal.OrderOutOfRange = 23
 refusal_number Refusal.TextDoesNotFit = 24
 
-abbrev pub isw_told : IswAnswer → List ℕ → Lent
-isw_told (IswAnswer.Written size) held = record { told = values (size ∷ []); held = held }
-isw_told (IswAnswer.Refused why) held = record { told = refusal (refusal_number why); held = held }
+abbrev pub isw_told : Result ℕ Refusal → List ℕ → Lent
+isw_told (Ok size) held = record { told = values (size ∷ []); held = held }
+isw_told (Err why) held = record { told = refusal (refusal_number why); held = held }
 
 -- the text stands at the buffer's start, and what lies past it is as it was; a refusal alters nothing
 abbrev pub isw_written : ℕ → List ℕ → Lent

@@ -26,10 +26,3 @@ impl Refusal {
         }
     }
 }
-
-// Written gives the text's length.
-#[derive(Clone, Copy)]
-pub enum IswAnswer {
-    Written { length: usize },
-    Refused(Refusal),
-}

@@ -1,6 +1,6 @@
 -- The verdict's answers, path by path. Where a test refuses, nothing was written; else the search's result decides.
 --     Promise, verdict_answer     the whole of a verdict's promise; its answer after the first tests
---     before, order-low, order-high, no_room, found_none, found-set     the verdict's answers
+--     order-low, order-high, no_room, found_none, found-set     the verdict's answers
 --     Passed                      all tests of a verdict passed
 --     bytes, order_small, size_within     then the table's bytes, the order and the size that was found are within limits
 use Prim.Native.Nat.{ℕ, ◌-◌, ◌≤◌, ◌<◌}
@@ -12,6 +12,7 @@ use borrow.Author.Tests.{le-leb, lt-leb, le-ltb, lt-ltb}
 use lib.Dec.{ltb, leb}
 use lib.ListN.{length, take, drop}
 use lib.Seq.{take_at}
+use Rattle.std.specs.Prelude.{Result, Ok, Err, Some, None}
 use Rattle.limits.specs.Limits.{max_shares, max_masks, max_table_bytes, max_size}
 use Rattle.basics.specs.Folds.{keep}
 use Rattle.basics.specs.Told.{Lent, values, turned_down}
@@ -20,19 +21,18 @@ use Rattle.records.specs.Layout.{wire_count}
 use Rattle.table.proofs.Conditions.{accepted_exactly}
 use Rattle.verdict_answers.specs.declared.Refusal.{Refusal}
 use Rattle.verdict_answers.specs.declared.Refusal.TheVariants.{OrderOutOfRange, BufferTooShort}
-use Rattle.verdict_answers.specs.declared.VerdictAnswer.{VerdictAnswer}
+use Rattle.verdict_answers.specs.declared.Judged.{Judged}
 use Rattle.breaking.specs.Breaking.{is_breaking}
 use Rattle.search.specs.Search.{searched, first, FirstSet}
 use Rattle.verdict_answers.specs.Answers.{refusal_number, verdict_told, wrong_order, notion_of, written, first_shown, verdict_of}
 use Rattle.verdict_answers.specs.Guarantee.{Guarantee}
 use Rattle.verdict_answers.proofs.Conditions.{verdict_answered}
 use Rattle.verdict_answers.proofs.Watching.{shown-none, holds, broken, refused}
-use Rattle.opening.specs.declared.Opened.{Opened}
 use Rattle.opening.specs.Opening.{opened_told, opens}
-use Rattle.opening.proofs.Admitting.{opened_for, short, opened-answer, opened-refusal}
+use Rattle.opening.proofs.Admitting.{opened_for, short, opened-answer}
 use Rattle.opening.proofs.Deciding.{searched_decided}
 
-pub record Promise (answer : VerdictAnswer) (held table : List ℕ) (shares masks notion order : ℕ) (buffer : List ℕ) : Type 0 where
+pub record Promise (answer : Result Judged Refusal) (held table : List ℕ) (shares masks notion order : ℕ) (buffer : List ℕ) : Type 0 where
   pub equation : verdict_told answer held ≡ verdict_of table shares masks notion order buffer
   pub guarantee : Guarantee answer table shares masks notion order held
 
@@ -43,36 +43,29 @@ module _ (table : List ℕ) (shares masks notion order : ℕ) (buffer : List ℕ
       (cond (ltb (length buffer) order) (turned_down 16 buffer)
       (first_shown (keep (is_breaking (notion_of notion) table shares masks) (searched (wire_count table) order)) buffer))
 
-  pub before : (why : Refusal) → opened_told (Opened.Refused why) ≡ opens table shares masks notion
-      → Promise (VerdictAnswer.Refused why) buffer table shares masks notion order buffer
-  before why e = record {
-    equation = sym (opened-refusal table shares masks notion (λ number. turned_down number buffer) verdict_answer (refusal_number why) e);
-    guarantee = refused table shares masks notion order why buffer;
-  }
-
-  module _ (kind : Notion) (told : opened_told (Opened.For kind) ≡ opens table shares masks notion) where
+  module _ (kind : Notion) (told : opened_told (Ok kind) ≡ opens table shares masks notion) where
     own_answer : verdict_of table shares masks notion order buffer ≡ verdict_answer
     own_answer =
         let o = opened_for table shares masks notion kind told in
         opened-answer table shares masks notion (λ number. turned_down number buffer) verdict_answer o.sound o.known
 
     turned : (why : Refusal) → turned_down (refusal_number why) buffer ≡ verdict_answer
-        → Promise (VerdictAnswer.Refused why) buffer table shares masks notion order buffer
+        → Promise (Err why) buffer table shares masks notion order buffer
     turned why e = record { equation = e ∙ sym own_answer; guarantee = refused table shares masks notion order why buffer }
 
-    pub order-low : order < 1 → Promise (VerdictAnswer.Refused OrderOutOfRange) buffer table shares masks notion order buffer
+    pub order-low : order < 1 → Promise (Err OrderOutOfRange) buffer table shares masks notion order buffer
     order-low h = turned OrderOutOfRange (simp (lt-leb 1 order h))
 
-    pub order-high : shares ≤ order → Promise (VerdictAnswer.Refused OrderOutOfRange) buffer table shares masks notion order buffer
+    pub order-high : shares ≤ order → Promise (Err OrderOutOfRange) buffer table shares masks notion order buffer
     order-high h = turned OrderOutOfRange (simp (le-ltb order shares h, and-false (leb 1 order)))
 
     pub no_room : 1 ≤ order → order < shares → length buffer < order
-        → Promise (VerdictAnswer.Refused BufferTooShort) buffer table shares masks notion order buffer
+        → Promise (Err BufferTooShort) buffer table shares masks notion order buffer
     no_room low high h = turned BufferTooShort (simp (le-leb 1 order low, lt-ltb order shares high, lt-ltb (length buffer) order h))
 
 -- the tests of a verdict that lets the search begin
 pub record Passed (table : List ℕ) (shares masks notion order : ℕ) (buffer : List ℕ) (kind : Notion) : Type 0 where
-  pub told : opened_told (Opened.For kind) ≡ opens table shares masks notion
+  pub told : opened_told (Ok kind) ≡ opens table shares masks notion
   pub low : 1 ≤ order
   pub high : order < shares
   pub room : order ≤ length buffer
@@ -85,7 +78,7 @@ module _ (table : List ℕ) (shares masks notion order : ℕ) (buffer : List ℕ
   pub order_small : order ≤ max_size
   order_small = omega (arith, p.high, (opened_for table shares masks notion kind p.told).sound.high)
 
-  module _ (size : ℕ) (probes : List ℕ) (search : FirstSet (is_breaking kind table max_shares max_masks) (searched (wire_count table) order) size probes) where
+  module _ (probes : List ℕ) where
     abbrev sets : List (List ℕ)
     sets = keep (is_breaking (notion_of notion) table shares masks) (searched (wire_count table) order)
 
@@ -103,42 +96,45 @@ module _ (table : List ℕ) (shares masks notion order : ℕ) (buffer : List ℕ
           room = p.room;
         }))
 
-    long : size ≡ length (first sets)
-    long = search.size_is ∙ ap (λ (l : List (List ℕ)). length (first l)) same
-
-    front : take size probes ≡ first sets
-    front = search.set_is ∙ ap first same
-
-    pub size_within : size ≤ order
-    size_within = go sets refl long
-      where
-        go : (l : List (List ℕ)) → sets ≡ l → size ≡ length (first l) → size ≤ order
-        go [] e k = omega arith
-        go (s ∷ later) e k = omega (arith, (shown-none table shares masks notion order s later e).1.few)
-
-    pub found_none : size ≡ 0 → Promise VerdictAnswer.Holds buffer table shares masks notion order buffer
-    found_none nil = go sets refl long
-      where
-        go : (l : List (List ℕ)) → sets ≡ l → size ≡ length (first l) → Promise VerdictAnswer.Holds buffer table shares masks notion order buffer
-        go [] e k = record {
+    pub found_none : FirstSet (is_breaking kind table max_shares max_masks) (searched (wire_count table) order) None probes
+        → Promise (Ok Judged.Holds) buffer table shares masks notion order buffer
+    found_none none =
+        let e = sym same ∙ none in
+        record {
           equation = ap (λ (l : List (List ℕ)). first_shown l buffer) (sym e) ∙ shows;
           guarantee = holds table shares masks notion order buffer e;
         }
-        go (s ∷ later) e k = let z : ⊥ = omega (arith, (shown-none table shares masks notion order s later e).0) in absurd z
 
-    pub found-set : (size ≡ 0 → ⊥) → (held : List ℕ) → held ≡ written (take (size - 0) probes) buffer
-        → Promise (VerdictAnswer.Broken size) held table shares masks notion order buffer
-    found-set some held wrote = go sets refl long front
-      where
-        go : (l : List (List ℕ)) → sets ≡ l → size ≡ length (first l) → take size probes ≡ first l
-            → Promise (VerdictAnswer.Broken size) held table shares masks notion order buffer
-        go [] e k q = absurd (some k)
-        go (s ∷ later) e k q =
-            let all : size - 0 ≡ size = omega arith in
-            let copied : held ≡ written s buffer =
-            wrote ∙ ap (λ (l : List ℕ). written l buffer) (ap (λ (i : ℕ). take i probes) all ∙ q) in record {
-              equation = ap₂ (λ (k : ℕ) (l : List ℕ). record { told = values (k ∷ []); held = l }) k copied
-                  ∙ ap (λ (l : List (List ℕ)). first_shown l buffer) (sym e) ∙ shows;
-              guarantee = broken table shares masks notion order size held s later e k
-                  (ap₂ {C = List ℕ} take k copied ∙ take_at s (drop (length s) buffer) (length s) refl);
-            }
+    module _ (size : ℕ) (search : FirstSet (is_breaking kind table max_shares max_masks) (searched (wire_count table) order) (Some size) probes) where
+      some : sets ≡ [] → ⊥
+      some e = search.some (same ∙ e)
+
+      long : size ≡ length (first sets)
+      long = search.size_is ∙ ap (λ (l : List (List ℕ)). length (first l)) same
+
+      front : take size probes ≡ first sets
+      front = search.set_is ∙ ap first same
+
+      pub size_within : size ≤ order
+      size_within = go sets refl long
+        where
+          go : (l : List (List ℕ)) → sets ≡ l → size ≡ length (first l) → size ≤ order
+          go [] e k = omega arith
+          go (s ∷ later) e k = omega (arith, (shown-none table shares masks notion order s later e).1.few)
+
+      pub found-set : (held : List ℕ) → held ≡ written (take (size - 0) probes) buffer
+          → Promise (Ok (Judged.Broken size)) held table shares masks notion order buffer
+      found-set held wrote = go sets refl long front
+        where
+          go : (l : List (List ℕ)) → sets ≡ l → size ≡ length (first l) → take size probes ≡ first l
+              → Promise (Ok (Judged.Broken size)) held table shares masks notion order buffer
+          go [] e k q = absurd (some e)
+          go (s ∷ later) e k q =
+              let all : size - 0 ≡ size = omega arith in
+              let copied : held ≡ written s buffer =
+              wrote ∙ ap (λ (l : List ℕ). written l buffer) (ap (λ (i : ℕ). take i probes) all ∙ q) in record {
+                equation = ap₂ (λ (k : ℕ) (l : List ℕ). record { told = values (k ∷ []); held = l }) k copied
+                    ∙ ap (λ (l : List (List ℕ)). first_shown l buffer) (sym e) ∙ shows;
+                guarantee = broken table shares masks notion order size held s later e k
+                    (ap₂ {C = List ℕ} take k copied ∙ take_at s (drop (length s) buffer) (length s) refl);
+              }

@@ -13,63 +13,66 @@ ghost use Rattle.verdict_answers.specs.First.{VerdictFinds};
 ghost use Rattle.verdict_answers.specs.Guarantee.{Guarantee};
 
 use limits::MAX_SIZE;
-use opening::{Opened, opening, write};
-use verdict_answers::{Refusal, VerdictAnswer};
+use opening::{opening, write};
+use verdict_answers::{Judged, Refusal};
 use wires::Notion;
 
-// How the first breaking set is looked for: set by set in the published order, or directed by the masks.
-#[derive(Clone, Copy)]
-pub enum Way {
-    Walk,
-    Directed,
+// How the first breaking set is looked for.
+pub trait Search {
+    // The size of the first breaking set of up to `order` wires, with the set at the start of `probes`.
+    fn first_set(table: &[u8], notion: Notion, order: usize, probes: &mut [u16]) -> Option<usize>
+        requires { (length table.now ≤ max_table_bytes) × (order ≤ max_size) × (order ≤ length probes.old) }
+        ensures { FirstSet (is_breaking notion table.now max_shares max_masks) (searched (wire_count table.now) order) result probes.new };
 }
 
-// The size of the first breaking set of up to `order` wires, with the set at the start of `probes`, or 0.
-fn first_set(way: Way, table: &[u8], notion: Notion, order: usize, probes: &mut [u16]) -> usize
-    requires { (length table.now ≤ max_table_bytes) × (order ≤ max_size) × (order ≤ length probes.old) }
-    ensures { FirstSet (is_breaking notion table.now max_shares max_masks) (searched (wire_count table.now) order) result probes.new }
-{
-    match way {
-        Way::Walk => search::first_set(table, notion, order, probes),
-        Way::Directed => directed_search::first_set(table, notion, order, probes),
+// Set by set in the published order.
+pub struct Walk;
+
+impl Search for Walk {
+    fn first_set(table: &[u8], notion: Notion, order: usize, probes: &mut [u16]) -> Option<usize> {
+        search::first_set(table, notion, order, probes)
+    }
+}
+
+// Directed by the masks.
+pub struct Directed;
+
+impl Search for Directed {
+    fn first_set(table: &[u8], notion: Notion, order: usize, probes: &mut [u16]) -> Option<usize> {
+        directed_search::first_set(table, notion, order, probes)
     }
 }
 
 // Whether the table holds the notion (1, NI; 2, SNI) at an order. Where it does not, the first breaking set in rising size and rank is
 // written, rising, at the start of `set`.
-pub fn judge(
-    way: Way,
+pub fn judge<S: Search>(
     table: &[u8],
     shares: usize,
     masks: usize,
     notion: usize,
     order: usize,
     set: &mut [u16],
-) -> VerdictAnswer
+) -> Result<Judged, Refusal>
     ensures set_after { verdict_told result set.new ≡ verdict_of table.now shares masks notion order set.old }
     ensures verdict_finds { VerdictFinds result table.now shares masks notion order set.old set.new }
     ensures guarantee { Guarantee result table.now shares masks notion order set.new }
 {
-    let opened = opening(table, shares, masks, notion);
-    match opened {
-        Opened::Refused(why) => VerdictAnswer::Refused(why),
-        Opened::For(kind) => {
-            if order < 1 {
-                return VerdictAnswer::Refused(Refusal::OrderOutOfRange);
-            }
-            if shares <= order {
-                return VerdictAnswer::Refused(Refusal::OrderOutOfRange);
-            }
-            if set.len() < order {
-                return VerdictAnswer::Refused(Refusal::BufferTooShort);
-            }
-            let mut probes = [0u16; MAX_SIZE];
-            let size = first_set(way, table, kind, order, &mut probes);
-            if size == 0 {
-                return VerdictAnswer::Holds;
-            }
+    let kind = opening(table, shares, masks, notion)?;
+    if order < 1 {
+        return Err(Refusal::OrderOutOfRange);
+    }
+    if shares <= order {
+        return Err(Refusal::OrderOutOfRange);
+    }
+    if set.len() < order {
+        return Err(Refusal::BufferTooShort);
+    }
+    let mut probes = [0u16; MAX_SIZE];
+    match S::first_set(table, kind, order, &mut probes) {
+        None => Ok(Judged::Holds),
+        Some(size) => {
             write(&probes[0..size], set);
-            VerdictAnswer::Broken { size }
+            Ok(Judged::Broken { size })
         }
     }
 }

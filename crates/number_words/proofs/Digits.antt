@@ -1,22 +1,22 @@
 -- A number as a word of digits: digit by digit, and what it is worth.
 --     number_more, number-all       one digit more of a word, and all of them
---     digits_more, digits-all, digits_fail     so for the test of its bytes
+--     all-digits                    the library's test of every byte
 --     number-empty, number-one, number_led, number_digits     the tests on its length and first byte
---     digit-large, digit-none, digit_more     one digit more of a number
+--     digit-large, digit_more       one digit more of a number
 --     number_small, number-large    the number of a word is what its digits are worth, where that is not large, and else large
 --     worth_below, number_exact     so many digits are worth less than that power of ten; so a number of up to eighteen digits is exact
-use Prim.Native.Nat.{ℕ, zero, suc, ◌+◌, ◌*◌, ◌-◌, ◌^◌, ◌≤◌, ◌<◌}
-use native.Mathlib.Nat.{not-suc-le-zero, le_of_suc-le-suc, mul-le-mul_right, pow-suc, pow-le-pow_right}
+use Prim.Native.Nat.{ℕ, suc, ◌+◌, ◌*◌, ◌-◌, ◌^◌, ◌≤◌, ◌<◌}
+use native.Mathlib.Nat.{mul-le-mul_right, pow-suc, pow-le-pow_right}
 use native.Mathlib.Omega.{arith}
-use mathlib.Core.Path.{◌≡◌, refl, sym, ◌∙◌, ap, ap₂}
-use mathlib.Core.Bool.{Bool, true, false, cond, not, ◌&&◌, and_assoc, and-false}
+use mathlib.Core.Path.{◌≡◌, refl, sym, ◌∙◌, ap}
+use mathlib.Core.Bool.{Bool, true, false, cond, not, ◌&&◌}
 use mathlib.Core.List.{List, [], ◌∷◌, ◌++◌}
 use borrow.Author.Tests.{leb-true, leb-false, le-leb, lt-leb, eq-eqb, ne_eqb}
 use lib.Dec.{eqb, leb}
 use lib.ListN.{length, take, get_or}
 use lib.Seq.{take-suc, take_all}
+use Rattle.std.specs.List.{list_all}
 use Rattle.basics.specs.Folds.{every}
-use Rattle.basics.proofs.Folds.{fold-append}
 use Rattle.basics.proofs.Tests.{and_left, and_right}
 use Rattle.description.specs.Bytes.{digit}
 use Rattle.pages.proofs.Numbers.{worth}
@@ -40,22 +40,10 @@ module _ (word : List ℕ) (i : ℕ) where
   pub number-all : (n : ℕ) → length word ≤ i → n ≡ number_of (take i word) → n ≡ number_of word
   number-all n h e = e ∙ ap number_of (take_all i word h)
 
-  digits-next : i < length word → every digit (take (i + 1) word) ≡ (every digit (take i word) && (digit (get_or word i 0) && true))
-  digits-next h =
-      ap (λ (k : ℕ). every digit (take k word)) next ∙ ap (every digit) (take-suc word i 0 h)
-      ∙ fold-append ◌&&◌ true (λ b. refl) and_assoc digit (take i word) (get_or word i 0 ∷ [])
-
-  pub digits_more : i < length word → every digit (take i word) ≡ true → digit (get_or word i 0) ≡ true → every digit (take (i + 1) word) ≡ true
-  digits_more h e f = digits-next h ∙ ap₂ (λ (a b : Bool). a && (b && true)) e f
-
-  pub digits-all : length word ≤ i → every digit (take i word) ≡ true → every digit word ≡ true
-  digits-all h e = ap (every digit) (sym (take_all i word h)) ∙ e
-
--- a byte that is none
-pub digits_fail : (word : List ℕ) (i : ℕ) → i < length word → digit (get_or word i 0) ≡ false → every digit word ≡ false
-digits_fail [] i h e = absurd (not-suc-le-zero h)
-digits_fail (c ∷ l) zero h e = ap (λ (b : Bool). b && every digit l) e
-digits_fail (c ∷ l) (suc i) h e = ap (λ (b : Bool). digit c && b) (digits_fail l i (le_of_suc-le-suc h) e) ∙ and-false (digit c)
+-- the library's test of every byte
+pub all-digits : (word : List ℕ) → list_all digit word ≡ every digit word
+all-digits [] = refl
+all-digits (c ∷ l) = ap (λ (b : Bool). digit c && b) (all-digits l)
 
 -- ---- what it is worth
 
@@ -143,9 +131,6 @@ module _ (word : List ℕ) (some : length word ≡ 0 → ⊥) (more : length wor
 
 pub digit-large : (n c : ℕ) → large ≤ n → n ≡ with_digit n c
 digit-large n c h = sym (ap (λ (b : Bool). cond b n (10 * n + (c - 48))) (le-leb large n h))
-
-pub digit-none : (n c : ℕ) → n < large → c < 48 → 10 * n ≡ with_digit n c
-digit-none n c h l = let none : 10 * n ≡ 10 * n + (c - 48) = omega (arith, l) in none ∙ sym (small-next n c h)
 
 pub digit_more : (n c : ℕ) → n < large → 10 * n + (c - 48) ≡ with_digit n c
 digit_more n c h = sym (small-next n c h)

@@ -30,21 +30,17 @@ pub fn is_number(word: &[u8]) -> bool
 fn all_digits(word: &[u8]) -> bool
     ensures { result ≡ every digit word.now }
 {
-    for i in 0..word.len() {
-        if !is_digit(word[i]) {
-            return false;
-        }
-    }
-    true
+    word.iter().all(|byte| is_digit(*byte))
 }
 
 // The number of a word of digits; of a large one any number that is large.
+// kept: str's parse is no plainer, since it gives an error in place of a large number, and takes a sign and leading zeros
 pub fn number_of(word: &[u8]) -> usize
     ensures { result ≡ number_of word.now }
 {
     let mut number = 0;
-    for i in 0..word.len() {
-        number = with_digit(number, word[i]);
+    for byte in word {
+        number = with_digit(number, *byte);
     }
     number
 }
@@ -55,8 +51,5 @@ fn with_digit(number: usize, byte: u8) -> usize
     if LARGE <= number {
         return number;
     }
-    if byte < 48 {
-        return 10 * number;
-    }
-    10 * number + (byte - 48) as usize
+    10 * number + usize::from(byte.saturating_sub(b'0'))
 }

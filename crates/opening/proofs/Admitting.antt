@@ -10,6 +10,7 @@ use mathlib.Core.Bool.{Bool, true, false, cond}
 use mathlib.Core.List.{List, [], ◌∷◌, ◌++◌}
 use borrow.Author.Tests.{ne_eqb}
 use lib.ListN.{length}
+use Rattle.std.specs.Prelude.{Ok}
 use Rattle.limits.specs.Limits.{max_table_bytes}
 use Rattle.basics.specs.Told.{values, refusal}
 use Rattle.basics.specs.Conditions.{◌when◌}
@@ -22,16 +23,13 @@ use Rattle.table.proofs.Conditions.{Sound, sound_none, none-sound, accepted_exac
 use Rattle.verdict_answers.specs.Answers.{wrong_notion, notion_of, opened}
 use Rattle.verdict_answers.specs.Conditions.{WrongNotion}
 use Rattle.verdict_answers.proofs.Conditions.{opened_chain}
-use Rattle.opening.specs.declared.Opened.{Opened}
 use Rattle.opening.specs.Opening.{notion_number, opened_told, opens}
 
 known : (kind : Notion) → wrong_notion (notion_number kind) ≡ false
-unfolding notion_number
 known Ni = refl
 known Sni = refl
 
 number-named : (kind : Notion) → kind ≡ notion_of (notion_number kind)
-unfolding notion_number
 number-named Ni = refl
 number-named Sni = refl
 
@@ -44,7 +42,7 @@ module _ (table : List ℕ) (shares masks notion : ℕ) where
     rest = tested-answer table shares masks refusal (cond (wrong_notion notion) (refusal 14) (values (notion ∷ [])))
         ((accepted_exactly table shares masks).0 passed)
 
-    pub open_known : (kind : Notion) → notion ≡ notion_number kind → opened_told (Opened.For kind) ≡ opens table shares masks notion
+    pub open_known : (kind : Notion) → notion ≡ notion_number kind → opened_told (Ok kind) ≡ opens table shares masks notion
     open_known kind e =
         ap (λ (b : Bool). cond b (refusal 14) (values (notion_number kind ∷ []))) (sym (known kind))
         ∙ ap (λ (k : ℕ). cond (wrong_notion k) (refusal 14) (values (k ∷ []))) (sym e) ∙ sym rest
@@ -63,7 +61,7 @@ module _ (table : List ℕ) (shares masks notion : ℕ) where
       (opens table shares masks notion)
   opens_chain = opened_chain table shares masks notion (own refusal (values (notion ∷ [])))
 
-  pub opens_notion : (kind : Notion) → opened_told (Opened.For kind) ≡ opens table shares masks notion → Opens table shares masks notion kind
+  pub opens_notion : (kind : Notion) → opened_told (Ok kind) ≡ opens table shares masks notion → Opens table shares masks notion kind
   opens_notion kind e =
       let none = (settles-told opens_chain).answered.0 (notion_number kind ∷ [], sym e) in
       let s = none-sound table shares masks none in
@@ -80,7 +78,7 @@ module _ (table : List ℕ) (shares masks notion : ℕ) where
     opened-refusal k e =
         (opened_chain table shares masks notion (own refuse answer)).first k (((settles-told opens_chain).refused k).0 (sym e))
 
-module _ (table : List ℕ) (shares masks notion : ℕ) (kind : Notion) (told : opened_told (Opened.For kind) ≡ opens table shares masks notion) where
+module _ (table : List ℕ) (shares masks notion : ℕ) (kind : Notion) (told : opened_told (Ok kind) ≡ opens table shares masks notion) where
   pub opened_for : Opens table shares masks notion kind
   opened_for = opens_notion table shares masks notion kind told
 

@@ -6,30 +6,16 @@ ghost use Rattle.std.specs.Prelude.{◌≡◌, ◌≤◌, length};
 ghost use Rattle.verdict_answers.specs.Answers.{written};
 ghost use Rattle.opening.specs.Opening.{opened_told, opens};
 
-use table::{TableAnswer, table_check};
+use table::table_check;
 use verdict_answers::Refusal;
 use wires::Notion;
 
-// The notion that was asked for, on a table that passed its tests.
-#[derive(Clone, Copy)]
-pub enum Opened {
-    For(Notion),
-    Refused(Refusal),
-}
-
-// The tests of the table, then 14: what every entry begins with.
-pub fn opening(table: &[u8], shares: usize, masks: usize, notion: usize) -> Opened
+// The tests of the table, then 14: what every entry begins with. Gives the notion that was asked for.
+pub fn opening(table: &[u8], shares: usize, masks: usize, notion: usize) -> Result<Notion, Refusal>
     ensures { opened_told result ≡ opens table.now shares masks notion }
 {
-    let tested = table_check(table, shares, masks);
-    match tested {
-        TableAnswer::Refused(why) => Opened::Refused(Refusal::Table(why)),
-        TableAnswer::Accepted => match notion {
-            1 => Opened::For(Notion::Ni),
-            2 => Opened::For(Notion::Sni),
-            _ => Opened::Refused(Refusal::NoSuchNotion),
-        },
-    }
+    table_check(table, shares, masks)?;
+    Ok(Notion::try_from(notion)?)
 }
 
 // Writes a set to the start of a buffer, and nothing past it.
@@ -37,7 +23,5 @@ pub fn write(found: &[u16], set: &mut [u16])
     requires { length found.now ≤ length set.old }
     ensures { set.new ≡ written found.now set.old }
 {
-    for i in 0..found.len() {
-        set[i] = found[i];
-    }
+    set[0..found.len()].copy_from_slice(found);
 }

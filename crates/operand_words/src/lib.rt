@@ -7,7 +7,6 @@ ghost use Rattle.pages.specs.Page.{Wrote};
 ghost use Rattle.operand_words.specs.Operands.{operands_named, operands};
 
 use pages::write_text;
-use verdict_answers::DependenceAnswer;
 
 // The operands of which a set depends on more shares than the notion allows it.
 pub fn operands_said(
@@ -23,15 +22,9 @@ pub fn operands_said(
     ensures wrote { Wrote page.old at (operands (set_dependence table.now shares masks notion set.now)) page.new result }
     ensures upper_bound { result ≤ at + 8 }
 {
-    let answer = dependence::set_dependence(table, shares, masks, notion, set);
-    match answer {
-        DependenceAnswer::Depends {
-            of_a,
-            of_b,
-            allowed,
-            masked,
-        } => operands_named(page, at, allowed < of_a, allowed < of_b),
-        DependenceAnswer::Refused(why) => at,
+    match dependence::set_dependence(table, shares, masks, notion, set) {
+        Ok(on) => operands_named(page, at, on.allowed < on.of_a, on.allowed < on.of_b),
+        Err(why) => at,
     }
 }
 

@@ -1,15 +1,17 @@
 -- The ends of lines and of the text: where the run stands when a line has been read, and when all have.
---     Passed, skip_space, skip_other, skip_end      spaces passed over, one after the other
+--     skips_all                             spaces passed over
 --     over_stopped, over_went               a line too many; a line that is skipped after the last
 --     finish-closing, finish-line, finish-blank     a closing parenthesis with none open; the end of an output line, of one that is skipped
+use Rattle.std.specs.Prelude.{Ok, Err}
+use Rattle.std.specs.List.{position_or_len}
 use Prim.Native.Nat.{ℕ, ◌+◌, ◌≤◌, ◌<◌}
 use native.Mathlib.Omega.{arith}
 use mathlib.Core.Path.{◌≡◌, refl, sym, ◌∙◌, ap, subst}
 use mathlib.Core.Bool.{Bool, true, false, cond, not, true≢false}
-use mathlib.Core.List.{List, []}
-use borrow.Author.Tests.{ltb-true, ltb-false, eq-eqb, ne_eqb, eqb-true}
+use mathlib.Core.List.{List, [], ◌∷◌}
+use borrow.Author.Tests.{ltb-true, ltb-false, eq-eqb, ne_eqb, eqb-true, eqb-false}
 use lib.Dec.{eqb, ltb}
-use lib.ListN.{length, drop, get_or, drop_of_length-le}
+use lib.ListN.{length, drop, get_or, drop_of_length-le, length-drop}
 use Rattle.description.specs.Bytes.{space, line_end, closing, ended}
 use Rattle.description.specs.Run.{State, go, refused, run_at, finish, line_step, line_done}
 use Rattle.description.specs.declared.Refusal.TheVariants.{WrongParenthesis, WrongLineCount}
@@ -18,7 +20,6 @@ use Rattle.description.proofs.Passing.{at_space, at_line_end, at_over, not_open}
 use Rattle.listing.specs.declared.Progress.{Progress}
 use Rattle.listing.specs.Progress.{Stands, line_progress, Follows}
 use Rattle.groups.specs.Going.{Within}
-use Rattle.groups.specs.declared.Answer.TheVariants.{Went, Stopped}
 use Rattle.groups.proofs.Reaching.{stands-lines, fewer, once}
 use Rattle.groups.proofs.Closing.{stands-group}
 use Rattle.output_lines.specs.Going.{Skips, LineWent, LineReads, next_line}
@@ -27,19 +28,49 @@ use Rattle.output_lines.specs.Going.{Skips, LineWent, LineReads, next_line}
 
 module _ (text : List ℕ) (from : ℕ) where
   -- from one place to another
-  abbrev pub Passed : ℕ → Type 0
+  abbrev Passed : ℕ → Type 0
   Passed at = (shares declared : ℕ) (s : State) → run_at shares declared text from s ≡ run_at shares declared text at s
 
-  pub skip_space : (at : ℕ) → at < length text → get_or text at 0 ≡ space → Passed at → Passed (at + 1)
-  skip_space at inside e passed shares declared s = passed shares declared s ∙ at_space shares declared text at s inside e
+  -- the bytes from a place on are no spaces before the first other
+  skips_from : (l : List ℕ) (at : ℕ) → drop at text ≡ l → from ≤ at → at ≤ length text → Passed at
+      → Skips text from (at + position_or_len (λ c. not (eqb c space)) l)
+  skips_from [] at e forward inside passed =
+      let all = ap length e in
+      let left = length-drop at text in
+      let here : at + 0 ≡ at = omega arith in
+      rw here
+      record { inside = inside; forward = forward; other = λ less. absurd (omega (arith, all, left, less)); passes = passed }
+  skips_from (c ∷ l) at e forward inside passed = go (eqb c space) refl (skips_from l (at + 1))
+    where
+      less : at < length text
+      less = let all = ap length e in let left = length-drop at text in omega (arith, all, left)
 
-  pub skip_other : (at : ℕ) → from ≤ at → at < length text → (get_or text at 0 ≡ space → ⊥) → Passed at → Skips text from at
-  skip_other at forward inside other passed =
-      record { inside = omega (arith, inside); forward = forward; other = λ _. other; passes = passed }
+      both : get_or text at 0 ∷ drop (at + 1) text ≡ c ∷ l
+      both = sym (drop_byte text at less) ∙ e
 
-  pub skip_end : (at : ℕ) → from ≤ at → at ≤ length text → length text ≤ at → Passed at → Skips text from at
-  skip_end at forward inside all passed =
-      record { inside = inside; forward = forward; other = λ less. absurd (omega (arith, all, less)); passes = passed }
+      first : get_or text at 0 ≡ c
+      first = ap (λ (k : List ℕ). get_or k 0 0) both
+
+      after : drop (at + 1) text ≡ l
+      after = ap (λ (k : List ℕ). drop 1 k) both
+
+      go : (b : Bool) → eqb c space ≡ b
+          → (drop (at + 1) text ≡ l → from ≤ at + 1 → at + 1 ≤ length text → Passed (at + 1)
+          → Skips text from (at + 1 + position_or_len (λ c. not (eqb c space)) l))
+          → Skips text from (at + cond (not (not b)) (1 + position_or_len (λ c. not (eqb c space)) l) 0)
+      go true f again =
+          let k = position_or_len (λ c. not (eqb c space)) l in
+          let place : at + 1 + k ≡ at + (1 + k) = omega arith in
+          subst (Skips text from) place
+          (again after (omega (arith, forward)) (omega (arith, less))
+          (λ shares declared s. passed shares declared s ∙ at_space shares declared text at s less (first ∙ eqb-true c space f)))
+      go false f again =
+          let here : at + 0 ≡ at = omega arith in
+          subst (Skips text from) (sym here)
+          (record { inside = inside; forward = forward; other = λ h g. eqb-false c space f (sym first ∙ g); passes = passed })
+
+  pub skips_all : from ≤ length text → Skips text from (from + position_or_len (λ c. not (eqb c space)) (drop from text))
+  skips_all inside = skips_from (drop from text) from refl (omega arith) inside (λ shares declared s. refl)
 
 -- ---- a line's end
 
@@ -87,7 +118,7 @@ past_within size p w =
 
 module _ (text : List ℕ) (p : Progress) (at : ℕ) (skips : Skips text p.at at) where
   pub over_stopped : ended (drop at text) ≡ false → (declared : ℕ) (table : List ℕ)
-      → LineReads p.lines declared text table p table (Stopped WrongLineCount at)
+      → LineReads p.lines declared text table p table (Err (record { why = WrongLineCount; offset = at }))
   over_stopped e declared table s stands alone = at_byte (ltb at (length text)) refl
     where
       at_byte : (b : Bool) → ltb at (length text) ≡ b → run_at p.lines declared text p.at s ≡ refused WrongLineCount at
@@ -108,7 +139,7 @@ module _ (text : List ℕ) (p : Progress) (at : ℕ) (skips : Skips text p.at at
   line-end_there e less = eqb-true (get_or text at 0) line_end (ap ended (sym (drop_byte text at less)) ∙ e)
 
   pub over_went : Within (length text) p → p.group.filled ≡ false → ended (drop at text) ≡ true → (q : Progress)
-      → q ≡ next_line (length text) here → (declared : ℕ) (table : List ℕ) → LineReads p.lines declared text table p table (Went q)
+      → q ≡ next_line (length text) here → (declared : ℕ) (table : List ℕ) → LineReads p.lines declared text table p table (Ok q)
   over_went w blank e q eq declared table =
       subst (LineWent p.lines declared text table p table) (sym eq) (record {
         within = past_within (length text) here (record {
@@ -148,7 +179,7 @@ module _ (text : List ℕ) (p : Progress) (at : ℕ) (skips : Skips text p.at at
 
 module _ (text table : List ℕ) (p : Progress) where
   pub finish-closing : (table' : List ℕ) → p.at < length text → get_or text p.at 0 ≡ closing → (shares declared : ℕ) → p.lines < shares
-      → LineReads shares declared text table p table' (Stopped WrongParenthesis p.at)
+      → LineReads shares declared text table p table' (Err (record { why = WrongParenthesis; offset = p.at }))
   finish-closing table' inside e shares declared less s stands alone =
       not_open shares declared text p.at s inside (fewer stands less) e alone
 
@@ -158,7 +189,7 @@ module _ (text table : List ℕ) (p : Progress) where
     onward = past_forward (length text) p.at w.inside
 
     pub finish-blank : p.group.filled ≡ false → (q : Progress) → q ≡ next_line (length text) p → (shares declared : ℕ) → p.lines < shares
-        → LineReads shares declared text table p table (Went q)
+        → LineReads shares declared text table p table (Ok q)
     finish-blank blank q eq shares declared less =
         subst (LineWent shares declared text table p table) (sym eq) (record {
           within = past_within (length text) p w;
@@ -187,7 +218,7 @@ module _ (text table : List ℕ) (p : Progress) where
     }
 
     pub finish-line : p.group.filled ≡ true → (table' : List ℕ) (r q : Progress) → r ≡ line_progress p → Follows table p table' r line_done
-        → q ≡ next_line (length text) r → (shares declared : ℕ) → p.lines < shares → LineReads shares declared text table p table' (Went q)
+        → q ≡ next_line (length text) r → (shares declared : ℕ) → p.lines < shares → LineReads shares declared text table p table' (Ok q)
     unfolding Follows
     finish-line full table' r q er follows eq shares declared less =
         subst (LineWent shares declared text table p table') (sym (eq ∙ ap (next_line (length text)) er)) (record {

@@ -3,6 +3,7 @@
 --     Past                             what holds before each line
 --     past_start, past_line            before the first, past one more
 --     past_stopped, past_few, past_all      a line that stops the run; too few lines at the text's end, and all of them
+use Rattle.std.specs.Prelude.{Result, Ok, Err}
 use Prim.Native.Nat.{ℕ, ◌+◌, ◌≤◌, ◌<◌}
 use native.Mathlib.Omega.{arith}
 use mathlib.Core.Path.{◌≡◌, refl, sym, ◌∙◌, ap, subst}
@@ -12,13 +13,11 @@ use borrow.Author.Tests.{ltb-true, ltb-false, lt-ltb, le-ltb}
 use lib.Dec.{ltb}
 use lib.ListN.{length}
 use Rattle.description.specs.Run.{State, start, done, refused, run_at, finish, line_step, line_done, go, max_depth}
-use Rattle.description.specs.declared.Refusal.{Refusal}
+use Rattle.description.specs.declared.Fault.{Fault}
 use Rattle.description.specs.declared.Refusal.TheVariants.{WrongLineCount}
 use Rattle.description.proofs.Running.{run_end}
 use Rattle.listing.specs.declared.Progress.{Progress}
 use Rattle.groups.specs.Going.{Within, Reached, GroupWent, Stops}
-use Rattle.groups.specs.declared.Answer.{Answer}
-use Rattle.groups.specs.declared.Answer.TheVariants.{Went, Stopped}
 use Rattle.groups.proofs.Reaching.{stands-lines}
 use Rattle.groups.proofs.Closing.{stands-group}
 use Rattle.output_lines.specs.Going.{LineWent, LineReads, AllRead, start_progress}
@@ -28,14 +27,14 @@ shallow : (s : State) → s.around ≡ [] → length s.around + 16 ≡ max_depth
 shallow s alone = ap (λ around. length around + 16) alone
 
 module _ (shares declared : ℕ) (text table : List ℕ) (p : Progress) where
-  pub line_stopped : (table' : List ℕ) (why : Refusal) (offset : ℕ) → Stops shares declared text 16 table p why offset
-      → LineReads shares declared text table p table' (Stopped why offset)
+  pub line_stopped : (table' : List ℕ) (fault : Fault) → Stops shares declared text 16 table p fault.why fault.offset
+      → LineReads shares declared text table p table' (Err fault)
   unfolding Stops
-  line_stopped table' why offset stops s stands alone = stops s stands (shallow s alone)
+  line_stopped table' fault stops s stands alone = stops s stands (shallow s alone)
 
-  pub line-finished : (table₁ table₂ : List ℕ) (inner : Progress) (r : Answer) → GroupWent shares declared text 16 table p table₁ inner
+  pub line-finished : (table₁ table₂ : List ℕ) (inner : Progress) (r : Result Progress Fault) → GroupWent shares declared text 16 table p table₁ inner
       → LineReads shares declared text table₁ inner table₂ r → LineReads shares declared text table p table₂ r
-  line-finished table₁ table₂ inner (Went q) went ends = record {
+  line-finished table₁ table₂ inner (Ok q) went ends = record {
     within = ends.within;
     most-lines = ends.most-lines;
     blank = ends.blank;
@@ -50,7 +49,7 @@ module _ (shares declared : ℕ) (text table : List ℕ) (p : Progress) where
       moved : (b : Bool) → ltb inner.at (length text) ≡ b → p.at < length text → p.at < q.at
       moved true e less = let f = ends.forward.1 (ltb-true inner.at (length text) e) in omega (arith, f, went.forward)
       moved false e less = let all = ltb-false inner.at (length text) e in omega (arith, all, less, ends.forward.0)
-  line-finished table₁ table₂ inner (Stopped why offset) went ends = λ s stands alone.
+  line-finished table₁ table₂ inner (Err fault) went ends = λ s stands alone.
       let r = went.reached s stands (shallow s alone) in r.goes ∙ ends r.state r.stands (r.enclosed ∙ alone)
 
 pub record Past (shares declared : ℕ) (text : List ℕ) (from : ℕ) (table : List ℕ) (q : Progress) (at : ℕ) : Type 0 where
@@ -90,9 +89,9 @@ module _ (shares declared : ℕ) (text : List ℕ) (from : ℕ) where
           reached = record { state = out.state; stands = out.stands; enclosed = out.enclosed; goes = r.goes ∙ out.goes };
         }
 
-    pub past_stopped : (table' : List ℕ) (why : Refusal) (offset : ℕ) → LineReads shares declared text table q table' (Stopped why offset)
-        → run_at shares declared text from start ≡ refused why offset
-    past_stopped table' why offset l = let r = g.reached in r.goes ∙ l r.state r.stands r.enclosed
+    pub past_stopped : (table' : List ℕ) (fault : Fault) → LineReads shares declared text table q table' (Err fault)
+        → run_at shares declared text from start ≡ refused fault.why fault.offset
+    past_stopped table' fault l = let r = g.reached in r.goes ∙ l r.state r.stands r.enclosed
 
     module _ (all : length text ≤ at) where
       -- at the text's end, by whether lines are too few

@@ -3,16 +3,15 @@
 --     LineWent, AllRead                where the reading goes on; all output lines are read
 --     LineReads, LinesRead             what the answer of each part says
 --     next_line, start_progress          the progress past a line's end, before the output lines
-use Rattle.std.specs.Prelude.{ℕ, ◌+◌, ◌≤◌, ◌<◌, ◌≡◌, false, cond, List, [], ltb, length, get_or}
+use Rattle.std.specs.Prelude.{ℕ, ◌+◌, ◌≤◌, ◌<◌, ◌≡◌, false, cond, List, [], ltb, length, get_or, Result, Ok, Err}
 use Rattle.records.specs.Layout.{no_sum}
 use Rattle.description.specs.Bytes.{space}
 use Rattle.description.specs.Listing.{empty_group}
 use Rattle.description.specs.Run.{State, start, done, refused, run_at}
+use Rattle.description.specs.declared.Fault.{Fault}
 use Rattle.listing.specs.declared.Progress.{Progress}
 use Rattle.listing.specs.Progress.{Stands}
 use Rattle.groups.specs.Going.{Within, Reached}
-use Rattle.groups.specs.declared.Answer.{Answer}
-use Rattle.groups.specs.declared.Answer.TheVariants.{Went, Stopped}
 
 -- spaces are passed over
 pub record Skips (text : List ℕ) (from at : ℕ) : Type 0 where
@@ -53,10 +52,10 @@ module _ (shares declared : ℕ) (text : List ℕ) where
     pub forward : (p.at ≤ q.at) × (p.at < length text → p.at < q.at)
     pub reached : (s : State) → Stands table p s → s.around ≡ [] → Reached shares declared text p.at s [] table' q
 
-  abbrev pub LineReads : List ℕ → Progress → List ℕ → Answer → Type 0
-  LineReads table p table' (Went q) = LineWent table p table' q
-  LineReads table p table' (Stopped why offset) =
-      (s : State) → Stands table p s → s.around ≡ [] → run_at shares declared text p.at s ≡ refused why offset
+  abbrev pub LineReads : List ℕ → Progress → List ℕ → Result Progress Fault → Type 0
+  LineReads table p table' (Ok q) = LineWent table p table' q
+  LineReads table p table' (Err fault) =
+      (s : State) → Stands table p s → s.around ≡ [] → run_at shares declared text p.at s ≡ refused fault.why fault.offset
 
   -- all output lines are read, from a place on
   pub record AllRead (from : ℕ) (table : List ℕ) (q : Progress) : Type 0 where
@@ -66,6 +65,6 @@ module _ (shares declared : ℕ) (text : List ℕ) where
     pub stands : Stands table q state
     pub finished : run_at shares declared text from start ≡ done state
 
-  abbrev pub LinesRead : ℕ → List ℕ → Answer → Type 0
-  LinesRead from table (Went q) = AllRead from table q
-  LinesRead from table (Stopped why offset) = run_at shares declared text from start ≡ refused why offset
+  abbrev pub LinesRead : ℕ → List ℕ → Result Progress Fault → Type 0
+  LinesRead from table (Ok q) = AllRead from table q
+  LinesRead from table (Err fault) = run_at shares declared text from start ≡ refused fault.why fault.offset

@@ -7,19 +7,15 @@ ghost use Rattle.isw_gadget.specs.Answers.{isw_written};
 ghost use Rattle.call_answers.specs.Calls.{got, lent_answered};
 ghost use Rattle.call_answers.specs.Meaning.{Kept, ReportSays, IswTextSays};
 
-use isw_gadget::IswAnswer;
-use report_text::ReportAnswer;
-
 // Writes the report on a text to the start of a buffer.
 pub fn report_text(text: &[u8], buffer: &mut [u8], length: &mut usize) -> u64
     ensures buffer_after { got result (length.new ∷ []) buffer.new ≡ lent_answered (report_text text.now buffer.old) (length.old ∷ []) }
     ensures kept { Kept result (length.new ∷ []) (length.old ∷ []) buffer.new buffer.old }
     ensures report_says { ReportSays result length.new text.now buffer.old buffer.new }
 {
-    let answer = report_text::report(text, buffer);
-    match answer {
-        ReportAnswer::Refused(why) => why.number(),
-        ReportAnswer::Written { length: size } => {
+    match report_text::report(text, buffer) {
+        Err(why) => why.number(),
+        Ok(size) => {
             *length = size;
             0
         }
@@ -32,10 +28,9 @@ pub fn isw_text(order: usize, text: &mut [u8], length: &mut usize) -> u64
     ensures kept { Kept result (length.new ∷ []) (length.old ∷ []) text.new text.old }
     ensures isw_text_says { IswTextSays result length.new order text.old text.new }
 {
-    let answer = isw_text::isw_text(order, text);
-    match answer {
-        IswAnswer::Refused(why) => why.number(),
-        IswAnswer::Written { length: written } => {
+    match isw_text::isw_text(order, text) {
+        Err(why) => why.number(),
+        Ok(written) => {
             *length = written;
             0
         }

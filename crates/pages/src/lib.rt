@@ -26,6 +26,7 @@ pub fn write_digit(page: &mut [u8], at: usize, digit: usize) -> usize
 }
 
 // A number in base ten: the digits before the last one are those of a tenth of it.
+// kept: write! is no plainer, since it gives a Result, and no place for the next byte, also where the page has room
 fn write_number(page: &mut [u8], at: usize, number: usize) -> usize
     requires { at + length (decimal number) ≤ length page.old }
     ensures { Wrote page.old at (decimal number) page.new result }
@@ -54,8 +55,8 @@ pub fn write_wires(page: &mut [u8], at: usize, set: &[u16]) -> usize
     ensures upper_bound { result ≤ at + 21 * length set.now }
 {
     let mut end = at;
-    for i in 0..set.len() {
-        end = write_named(page, end, b" ", set[i] as usize);
+    for wire in set {
+        end = write_named(page, end, b" ", usize::from(*wire));
     }
     end
 }

@@ -5,13 +5,12 @@
 
 ghost use Rattle.std.specs.Prelude.{◌<◌};
 
-use console::arguments::{Argument, only_number};
+use console::arguments::{NoNumber, only_number};
 use console::input::{INPUT_BYTES, read_input};
-use console::saying::{say, say_number};
+use console::saying::note;
 use console::times::{SETS_A_SECOND, sets_of_both};
 use console::{output, refusals};
-use description::Refusal;
-use plan_text::SizeAnswer;
+use description::Fault;
 use std::io::Read;
 
 mod rows;
@@ -25,17 +24,10 @@ const PLAN_BYTES: usize = 1024;
 fn main(rt: HostRuntime) {
     let notes = rt.stderr();
     let mut word = [0u8; RATE_DIGITS];
-    let argument = only_number(&rt, &mut word);
-    match argument {
-        Argument::Missing => plan(&rt, &notes, &mut rt.stdin(), SETS_A_SECOND),
-        Argument::Number(rate) => {
-            if rate == 0 {
-                say_usage(&notes);
-            } else {
-                plan(&rt, &notes, &mut rt.stdin(), rate as u64);
-            }
-        }
-        Argument::Other => say_usage(&notes),
+    match only_number(&rt, &mut word) {
+        Err(NoNumber::Missing) => plan(&rt, &notes, &mut rt.stdin(), SETS_A_SECOND),
+        Ok(0) | Err(NoNumber::Other) => say_usage(&notes),
+        Ok(rate) => plan(&rt, &notes, &mut rt.stdin(), rate as u64),
     }
 }
 
@@ -44,11 +36,8 @@ fn plan(rt: &impl Print, notes: &impl Print, reader: &mut impl Read, rate: u64)
     requires { 0 < rate }
 {
     let mut text = [0u8; INPUT_BYTES];
-    let input = read_input(reader, notes, "plan: standard input", &mut text);
-    // a text that was read in part is no text
-    if input.is_whole {
-        let length = input.length;
-        answer(rt, notes, &text[0..length], rate);
+    if let Some(length) = read_input(reader, notes, "plan: standard input", &mut text) {
+        answer(rt, notes, &text[..length], rate);
     }
 }
 
@@ -56,44 +45,33 @@ fn plan(rt: &impl Print, notes: &impl Print, reader: &mut impl Read, rate: u64)
 fn answer(rt: &impl Print, notes: &impl Print, text: &[u8], rate: u64)
     requires { 0 < rate }
 {
-    let size = plan_text::check_size(text);
-    let answer = size.answer;
-    match answer {
-        SizeAnswer::Size {
-            order,
-            shares,
-            masks,
-            wires,
-            bytes,
-        } => {
-            let sets = size.sets;
-            let all = plan_text::total(&sets);
+    match plan_text::check_size(text) {
+        Ok(size) => {
+            let all = plan_text::total(&size.sets);
             let mut page = [b' '; PLAN_BYTES];
-            let figures = rows::write_figures(&mut page, order, shares, masks, wires, bytes);
-            let counts = rows::write_counts(&mut page, figures, order, &sets);
+            let figures = rows::write_figures(&mut page, &size);
+            let counts = rows::write_counts(&mut page, figures, size.order, &size.sets);
             let totals = rows::write_row(&mut page, counts, b"sets in all", all);
             let end = rows::write_time_line(&mut page, totals, sets_of_both(all), rate);
-            output::print(rt, notes, "plan: standard output", &page[0..end]);
+            output::print(rt, notes, "plan: standard output", &page[..end]);
         }
-        SizeAnswer::Refused { why, offset } => say_refused(notes, text, why, offset),
+        Err(fault) => say_refused(notes, text, fault),
     }
 }
 
-fn say_refused(notes: &impl Print, text: &[u8], why: Refusal, offset: usize) {
-    say_number(notes, b"plan: refused ", why.number());
-    say_number(notes, b" at ", offset as u64);
-    say(notes, b"\n");
-    refusals::explain(notes, b"plan", text, why, offset);
+fn say_refused(notes: &impl Print, text: &[u8], fault: Fault) {
+    note(
+        notes,
+        format_args!("plan: refused {} at {}\n", fault.why.number(), fault.offset),
+    );
+    refusals::explain(notes, b"plan", text, fault.why, fault.offset);
 }
 
 fn say_usage(notes: &impl Print) {
-    say_number(
+    note(
         notes,
-        b"plan: usage: plan [RATE]    (RATE: sets a second, a number from 1 on of at most ",
-        RATE_DIGITS as u64,
-    );
-    say(
-        notes,
-        b" digits, without leading zeros; the text comes from standard input)\n",
+        format_args!(
+            "plan: usage: plan [RATE]    (RATE: sets a second, a number from 1 on of at most {RATE_DIGITS} digits, without leading zeros; the text comes from standard input)\n"
+        ),
     );
 }

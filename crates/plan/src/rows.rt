@@ -1,4 +1,5 @@
 // The lines of a plan, written to a page of spaces one after the other: the rows of a table, each a name and a figure, and the time below it.
+// kept: the clauses of these functions bound the bytes on the page, and a Display would have no page
 ghost use Rattle.std.specs.Prelude.{◌≤◌, ◌+◌, ◌*◌, length};
 ghost use Rattle.limits.specs.Limits.{max_order};
 ghost use Rattle.plan.specs.Rows.{row_bytes, time_line_bytes};
@@ -6,6 +7,7 @@ ghost use Rattle.plan.specs.Rows.{row_bytes, time_line_bytes};
 use console::times::write_time;
 use limits::MAX_ORDER;
 use pages::{write_named, write_text};
+use plan_text::CheckSize;
 
 // A row's columns, without the line's end, of which the figure may take so many.
 const COLUMNS: usize = 40;
@@ -13,22 +15,15 @@ const COLUMNS: usize = 40;
 const FIGURE_COLUMNS: usize = 20;
 
 // What reading gives, and the bytes of the table that it needs.
-pub fn write_figures(
-    page: &mut [u8],
-    order: usize,
-    shares: usize,
-    masks: usize,
-    wires: usize,
-    bytes: usize,
-) -> usize
+pub fn write_figures(page: &mut [u8], size: &CheckSize) -> usize
     requires { 5 * row_bytes ≤ length page.old }
     ensures { result ≤ 5 * row_bytes }
 {
-    let first = write_row(page, 0, b"order", order as u64);
-    let second = write_row(page, first, b"shares", shares as u64);
-    let third = write_row(page, second, b"masks", masks as u64);
-    let fourth = write_row(page, third, b"wires", wires as u64);
-    write_row(page, fourth, b"bytes of the table", bytes as u64)
+    let first = write_row(page, 0, b"order", size.order as u64);
+    let second = write_row(page, first, b"shares", size.shares as u64);
+    let third = write_row(page, second, b"masks", size.masks as u64);
+    let fourth = write_row(page, third, b"wires", size.wires as u64);
+    write_row(page, fourth, b"bytes of the table", size.bytes as u64)
 }
 
 // The sets of each size from 1 to the order.
@@ -37,11 +32,8 @@ pub fn write_counts(page: &mut [u8], at: usize, order: usize, sets: &[u64; MAX_O
     ensures { result ≤ at + max_order * row_bytes }
 {
     let mut end = at;
-    for i in 0..MAX_ORDER {
-        if order <= i {
-            return end;
-        }
-        end = write_count(page, end, i + 1, sets[i]);
+    for (i, count) in sets[..order.min(MAX_ORDER)].iter().enumerate() {
+        end = write_count(page, end, i + 1, *count);
     }
     end
 }
@@ -69,7 +61,7 @@ fn write_figure(page: &mut [u8], at: usize, figure: u64) -> usize
 {
     let mut digits = [0u8; FIGURE_COLUMNS];
     let count = write_named(&mut digits, 0, b"", figure as usize);
-    let end = write_text(page, at + (COLUMNS - count), &digits[0..count]);
+    let end = write_text(page, at + (COLUMNS - count), &digits[..count]);
     write_text(page, end, b"\n")
 }
 

@@ -24,8 +24,10 @@ use Rattle.reader.specs.Answers.{gives}
 use Rattle.reader.proofs.Telling.{tableless-read}
 use Rattle.plan_text.specs.Answers.{SizeTold, figures, refused, size_told, size_of, check_size, counted}
 use Rattle.plan_text.specs.Says.{Figures, Refuses, SizeSays}
-use Rattle.plan_text.specs.declared.SizeAnswer.{SizeAnswer}
-use Rattle.plan_text.proofs.Sizing.{read_says, refused_says}
+use Rattle.std.specs.Prelude.{Result, Ok, Err}
+use Rattle.description.specs.declared.Fault.{Fault}
+use Rattle.plan_text.specs.declared.CheckSize.{CheckSize}
+use Rattle.plan_text.proofs.Sizing.{sized, down, read_says, refused_says}
 
 -- a table of so many bytes
 abbrev table : ℕ → List ℕ
@@ -92,46 +94,43 @@ module _ (text : List ℕ) where
       let both = sym (f.reads (table b) (omega (arith, long b))) ∙ r.whatever (table b) in
       let z : ◌≡◌ {A = ℕ} 0 1 = cc in omega (arith, z)
 
-  pub says_once : (a a' : SizeAnswer) (s s' : List ℕ) → SizeSays a s text → SizeSays a' s' text
-      → size_told (record { answer = a; sets = s }) ≡ size_told (record { answer = a'; sets = s' })
-  says_once (SizeAnswer.Size o h m w b) (SizeAnswer.Size o' h' m' w' b') s s' f g =
-      ap₂ (λ (t : SizeTold) (l : List ℕ). record { told = t; sets = l }) (same-figures s s' o h m w b o' h' m' w' b' f.0 g.0)
-      (same-sets s s' o h m w b o' h' m' w' b' f.0 g.0 f.1 g.1 f.2 g.2)
-  says_once (SizeAnswer.Size o h m w b) (SizeAnswer.Refused why offset) s s' f g = absurd (not_both s o h m w b (refusal_number why) offset f.0 g.0)
-  says_once (SizeAnswer.Refused why offset) (SizeAnswer.Size o h m w b) s s' f g = absurd (not_both s' o h m w b (refusal_number why) offset g.0 f.0)
-  says_once (SizeAnswer.Refused why offset) (SizeAnswer.Refused why' offset') s s' f g =
-      let both = sym (f.0.whatever []) ∙ g.0.whatever [] in
-      let x : refusal_number why ≡ refusal_number why' = cc in
-      let y : offset ≡ offset' = cc in
-      let same : refused (refusal_number why) offset ≡ refused (refusal_number why') offset' = ap₂ refused x y in
-      ap₂ (λ (t : SizeTold) (l : List ℕ). record { told = t; sets = l }) same
-      (ext_get_or 0 s s' (f.1 ∙ sym g.1) (λ k inside. f.2 k ∙ sym (g.2 k)))
+  pub says_once : (a a' : Result CheckSize Fault) → SizeSays a text → SizeSays a' text → size_told a ≡ size_told a'
+  says_once (Ok a) (Ok a') f g =
+      ap₂ (λ (t : SizeTold) (l : List ℕ). record { told = t; sets = l })
+      (same-figures a.sets a'.sets a.order a.shares a.masks a.wires a.bytes a'.order a'.shares a'.masks a'.wires a'.bytes f.0 g.0)
+      (same-sets a.sets a'.sets a.order a.shares a.masks a.wires a.bytes a'.order a'.shares a'.masks a'.wires a'.bytes f.0 g.0 f.1 g.1 f.2 g.2)
+  says_once (Ok a) (Err e) f g = absurd (not_both a.sets a.order a.shares a.masks a.wires a.bytes (refusal_number e.why) e.offset f.0 g)
+  says_once (Err e) (Ok a) f g = absurd (not_both a.sets a.order a.shares a.masks a.wires a.bytes (refusal_number e.why) e.offset g.0 f)
+  says_once (Err e) (Err e') f g =
+      let both = sym (f.whatever []) ∙ g.whatever [] in
+      let x : refusal_number e.why ≡ refusal_number e'.why = cc in
+      let y : e.offset ≡ e'.offset = cc in
+      ap₂ (λ (n place : ℕ). record { told = refused n place; sets = replicate max_order 0 }) x y
 
-  pub says_told : (a : SizeAnswer) (s : List ℕ) → SizeSays a s text → size_told (record { answer = a; sets = s }) ≡ check_size text
-  says_told a s says = go (tableless text (reading text)) refl
+  pub says_told : (a : Result CheckSize Fault) → SizeSays a text → size_told a ≡ check_size text
+  says_told a says = go (tableless text (reading text)) refl
     where
-      go : (r : Reading) → tableless text (reading text) ≡ r → size_told (record { answer = a; sets = s }) ≡ size_of (tableless text (reading text))
-      go (turned_down why offset) e =
-          says_once a (SizeAnswer.Refused why offset) s (replicate max_order 0) says (refused_says text why offset e) ∙ ap size_of (sym e)
+      go : (r : Reading) → tableless text (reading text) ≡ r → size_told a ≡ size_of (tableless text (reading text))
+      go (turned_down why offset) e = says_once a (down why offset) says (refused_says text why offset e) ∙ ap size_of (sym e)
       go (read order masks ws) e =
           let r = tableless-read text order masks ws e in
           let d = read-spelled text order masks ws r.0 in
           let low : order ≤ max_order = omega (arith, d.same-order, d.spells.order-digit.1) in
-          says_once a (SizeAnswer.Size order (order + 1) masks (length ws) (record_bytes * length ws)) s (counted (length ws) order) says
+          says_once a (sized order (order + 1) masks (length ws) (record_bytes * length ws) (counted (length ws) order)) says
           (read_says text order masks ws r.0 r.1 low)
           ∙ ap size_of (sym e)
 
   -- "10 here only for over 512 wires": a description of at most as many is never refused with it
-  pub never_ten : (why : Refusal) (offset : ℕ) (s : List ℕ) → SizeSays (SizeAnswer.Refused why offset) s text → refusal_number why ≡ 10
+  pub never_ten : (why : Refusal) (offset : ℕ) → SizeSays (down why offset) text → refusal_number why ≡ 10
       → (d : Description) → Spells text d → max_wires < length (wires_of d)
-  never_ten why offset s says ten d spells =
-      let o = says.0.ten.0 ten in
+  never_ten why offset says ten d spells =
+      let o = says.ten.0 ten in
       let e = spelled-read text o.description o.spells o.limits in
       let limits = spelled-limits text o.description.order (mask_count o.description.names) (wires_of o.description) e d spells in
       let both = sym e ∙ spelled-read text d spells limits in
       let same : wires_of o.description ≡ wires_of d = cc in
       subst (λ (l : List Listed). max_wires < length l) same o.many
 
-  pub many-ten : (why : Refusal) (offset : ℕ) (s : List ℕ) → SizeSays (SizeAnswer.Refused why offset) s text
+  pub many-ten : (why : Refusal) (offset : ℕ) → SizeSays (down why offset) text
       → (d : Description) → Spells text d → Limits text d → max_wires < length (wires_of d) → refusal_number why ≡ 10
-  many-ten why offset s says d spells limits many = says.0.ten.1 (record { description = d; spells = spells; limits = limits; many = many })
+  many-ten why offset says d spells limits many = says.ten.1 (record { description = d; spells = spells; limits = limits; many = many })

@@ -1,5 +1,6 @@
 -- What the entry tells, and what its answer says.
 --     read_says, refused_says      reading and the set counts say the same as the definition, of a text that is read and of one that is turned down
+--     sized, down                  the two answers, by what stands in them
 --     gave, turned_down_lem            both promises of the entry, on its two paths
 --     spelled-figures, figures-spelled     it answers exactly where the text spells a description within the limits, with that description's figures
 use Prim.Native.Nat.{ℕ, suc, ◌+◌, ◌-◌, ◌*◌, ◌≤◌, ◌<◌}
@@ -10,7 +11,7 @@ use mathlib.Core.Bool.{Bool, true, false, cond}
 use mathlib.Core.List.{List}
 use borrow.Author.Tests.{ltb-true, lt-ltb, le-ltb}
 use lib.Dec.{ltb}
-use lib.ListN.{length, replicate, length-replicate}
+use lib.ListN.{length}
 use Rattle.limits.specs.Limits.{max_order, max_wires, max_size, max_table_bytes, record_bytes}
 use Rattle.counts.specs.Counts.{binom}
 use Rattle.description.specs.Run.{Reading, read, turned_down, reading, refusal_number}
@@ -22,14 +23,22 @@ use Rattle.description.proofs.Exactly.{spelled-read, read-spelled}
 use Rattle.reader.specs.Answers.{ReadLent}
 use Rattle.reader.specs.Reads.{Readable}
 use Rattle.scratch_reader.specs.Answers.{tableless}
-use Rattle.scratch_reader.specs.Scratch.{ScratchReads}
-use Rattle.scratch_reader.specs.declared.ReadAnswer.{ReadAnswer}
+use Rattle.scratch_reader.specs.Scratch.{Scratched}
 use Rattle.reader.proofs.Telling.{tableless-read, tableless_down, too_large_lem, large-enough}
 use Rattle.plan_text.specs.Answers.{figures, size_told, counted, size_of, check_size}
 use Rattle.plan_text.specs.Says.{OverMany, Figures, SizeSays}
-use Rattle.plan_text.specs.declared.SizeAnswer.{SizeAnswer}
-use Rattle.sets_by_size.proofs.Counting.{counted-length, counted_at, counted-rest, zeros}
+use Rattle.std.specs.Prelude.{Result, Ok, Err}
+use Rattle.description.specs.declared.Fault.{Fault}
+use Rattle.plan_text.specs.declared.CheckSize.{CheckSize}
+use Rattle.sets_by_size.proofs.Counting.{counted-length, counted_at, counted-rest}
 use Rattle.plan_text.proofs.Ten.{Low, below-ten}
+
+-- the two answers, by what stands in them
+abbrev pub sized : ℕ → ℕ → ℕ → ℕ → ℕ → List ℕ → Result CheckSize Fault
+sized order shares masks wires bytes sets = Ok (record { order = order; shares = shares; masks = masks; wires = wires; bytes = bytes; sets = sets })
+
+abbrev pub down : Refusal → ℕ → Result CheckSize Fault
+down why offset = Err (record { why = why; offset = offset })
 
 module _ (text : List ℕ) where
   -- ---- a text that is read
@@ -48,7 +57,7 @@ module _ (text : List ℕ) where
           simp (le-ltb max_wires wires few, le-ltb max_size size (omega (arith, last, low)), number);
     }
 
-    pub read_says : SizeSays (SizeAnswer.Size order (order + 1) masks wires (record_bytes * wires)) (counted wires order) text
+    pub read_says : SizeSays (sized order (order + 1) masks wires (record_bytes * wires) (counted wires order)) text
     read_says = (figured, counted-length wires order low, λ k beyond. counted-rest wires order k beyond)
 
   -- ---- a text that is turned down
@@ -83,35 +92,31 @@ module _ (text : List ℕ) where
           let same : why ≡ TooManyWires = cc in
           ap refusal_number same
 
-  pub refused_says : (why : Refusal) (offset : ℕ) → tableless text (reading text) ≡ turned_down why offset
-      → SizeSays (SizeAnswer.Refused why offset) (replicate max_order 0) text
-  refused_says why offset e = (
-    record { whatever = λ table. ap (λ (l : ReadLent). l.told) (tableless_down text table why offset e); ten = over_many why offset e },
-    length-replicate {A = ℕ} max_order 0,
-    zeros max_order,
-  )
+  pub refused_says : (why : Refusal) (offset : ℕ) → tableless text (reading text) ≡ turned_down why offset → SizeSays (down why offset) text
+  refused_says why offset e =
+      record { whatever = λ table. ap (λ (l : ReadLent). l.told) (tableless_down text table why offset e); ten = over_many why offset e }
 
 -- ---- the paths of the entry
 
 module _ (text : List ℕ) where
-  abbrev Promised : SizeAnswer → List ℕ → Type 0
-  Promised answer sets = (size_told (record { answer = answer; sets = sets }) ≡ check_size text) × SizeSays answer sets text
+  abbrev Promised : Result CheckSize Fault → Type 0
+  Promised answer = (size_told answer ≡ check_size text) × SizeSays answer text
 
-  pub turned_down_lem : (why : Refusal) (offset : ℕ) → tableless text (reading text) ≡ turned_down why offset
-      → Promised (SizeAnswer.Refused why offset) (replicate max_order 0)
+  pub turned_down_lem : (why : Refusal) (offset : ℕ) → tableless text (reading text) ≡ turned_down why offset → Promised (down why offset)
   turned_down_lem why offset e = (sym (ap size_of e), refused_says text why offset e)
 
-  pub gave : (scratch : List ℕ) (order shares masks wires : ℕ) (sets : List ℕ) → ScratchReads text scratch (ReadAnswer.Read order shares masks wires)
-      → sets ≡ counted wires order → Promised (SizeAnswer.Size order shares masks wires (record_bytes * wires)) sets
+  pub gave : (scratch : List ℕ) (order shares masks wires : ℕ) (sets : List ℕ)
+      → Scratched (tableless text (reading text)) scratch order shares masks wires
+      → sets ≡ counted wires order → Promised (sized order shares masks wires (record_bytes * wires) sets)
   gave scratch order shares masks wires sets s e =
       let ws = s.listed-wires in
       let r = tableless-read text order masks ws s.reads in
       let all : sets ≡ counted (length ws) order = e ∙ ap (λ (n : ℕ). counted n order) s.count in
       let of : (n m : ℕ) (l : List ℕ) → n ≡ order + 1 → m ≡ length ws → l ≡ counted (length ws) order
-      → Promised (SizeAnswer.Size order n masks m (record_bytes * m)) l =
-      λ n m l f g h. subst (λ (k : ℕ). Promised (SizeAnswer.Size order k masks m (record_bytes * m)) l) (sym f)
-      (subst (λ (k : ℕ). Promised (SizeAnswer.Size order (order + 1) masks k (record_bytes * k)) l) (sym g)
-      (subst (Promised (SizeAnswer.Size order (order + 1) masks (length ws) (record_bytes * length ws))) (sym h)
+      → Promised (sized order n masks m (record_bytes * m) l) =
+      λ n m l f g h. subst (λ (k : ℕ). Promised (sized order k masks m (record_bytes * m) l)) (sym f)
+      (subst (λ (k : ℕ). Promised (sized order (order + 1) masks k (record_bytes * k) l)) (sym g)
+      (subst (λ (k : List ℕ). Promised (sized order (order + 1) masks (length ws) (record_bytes * length ws) k)) (sym h)
       (sym (ap size_of s.reads), read_says text order masks ws r.0 r.1 s.low))) in
       of shares wires sets s.same_shares s.count all
 

@@ -27,9 +27,11 @@ use Rattle.reader.specs.Answers.{gives, read_text}
 use Rattle.reader.proofs.Telling.{tableless-read}
 use Rattle.plan_text.specs.Answers.{figures, refused, size_of, check_size, set_counts, counted, total_of}
 use Rattle.plan_text.specs.Says.{OverMany, SizeSays}
-use Rattle.plan_text.specs.declared.SizeAnswer.{SizeAnswer}
+use Rattle.std.specs.Prelude.{Result}
+use Rattle.description.specs.declared.Fault.{Fault}
+use Rattle.plan_text.specs.declared.CheckSize.{CheckSize}
 use Rattle.sets_by_size.proofs.Totals.{total_exact}
-use Rattle.plan_text.proofs.Sizing.{read_says, refused_says}
+use Rattle.plan_text.proofs.Sizing.{sized, read_says, refused_says}
 
 module _ (text : List ℕ) where
   -- a text of which the definition tells figures has been read
@@ -37,7 +39,7 @@ module _ (text : List ℕ) where
     few : w ≤ max_wires
     low : o ≤ max_order
     sets : (check_size text).sets ≡ counted w o
-    says : SizeSays (SizeAnswer.Size o h m w b) (counted w o) text
+    says : SizeSays (sized o h m w b (counted w o)) text
 
   module _ (o h m w b : ℕ) (e : figures o h m w b ≡ (check_size text).told) where
     told : Told o h m w b
@@ -55,14 +57,12 @@ module _ (text : List ℕ) where
             let same_bytes : b ≡ record_bytes * length ws = cc in
             let low : order ≤ max_order = omega (arith, d.same-order, d.spells.order-digit.1) in
             let counts : counted w o ≡ counted (length ws) order = ap₂ counted same-wires same-order in
-            let answer : SizeAnswer.Size o h m w b ≡ SizeAnswer.Size order (order + 1) masks (length ws) (record_bytes * length ws) = cc in
+            let answer : sized o h m w b (counted w o) ≡ sized order (order + 1) masks (length ws) (record_bytes * length ws) (counted (length ws) order) = cc in
             record {
               few = omega (arith, same-wires, r.1);
               low = omega (arith, same-order, low);
               sets = ap (λ (r : Reading). (size_of r).sets) f ∙ sym counts;
-              says = subst (λ (a : SizeAnswer). SizeSays a (counted w o) text) (sym answer)
-                  (subst (λ (l : List ℕ). SizeSays (SizeAnswer.Size order (order + 1) masks (length ws) (record_bytes * length ws)) l text) (sym counts)
-                  (read_says text order masks ws r.0 r.1 low));
+              says = subst (λ (a : Result CheckSize Fault). SizeSays a text) (sym answer) (read_says text order masks ws r.0 r.1 low);
             }
 
     -- "The figures are reading's"
@@ -105,14 +105,14 @@ module _ (text : List ℕ) where
     -- "a text that reading turns down gets its number and offset"
     pub told-refused : (table : List ℕ) → (read_text text table).told ≡ reader.refused number offset
     told-refused table =
-        (refused_says text down.why offset down.outcome).0.whatever table ∙ ap (λ (n : ℕ). reader.refused n offset) (sym down.same_number)
+        (refused_says text down.why offset down.outcome).whatever table ∙ ap (λ (n : ℕ). reader.refused n offset) (sym down.same_number)
 
     pub refused-sets : (check_size text).sets ≡ replicate max_order 0
     refused-sets = ap (λ (r : Reading). (size_of r).sets) down.outcome
 
     -- "10 here only for over 512 wires"
     pub told-ten : number ≡ 10 → OverMany text
-    told-ten ten = (refused_says text down.why offset down.outcome).0.ten.0 (sym down.same_number ∙ ten)
+    told-ten ten = (refused_says text down.why offset down.outcome).ten.0 (sym down.same_number ∙ ten)
 
   -- and for all of these
   pub told-many : (d : Description) → Spells text d → Limits text d → max_wires < length (wires_of d) → (check_size text).told ≡ refused 10 (length text)

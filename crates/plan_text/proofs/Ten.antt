@@ -10,9 +10,10 @@ use Rattle.description.specs.Bytes.{space, line_end, opening, closing, bar, word
 use Rattle.description.specs.Header.{order_line, masks_line}
 use Rattle.description.specs.Symbols.{symbol_read}
 use Rattle.description.specs.Run.{Around, State, Step, go, stop, Outcome, done, refused, Reading, read, turned_down, refusal_number, line_step, close_step, symbol_step, step, finish, run, start, listed, after_masks, after_order, reading, max_text, max_depth, second_at}
-use Rattle.description.specs.declared.SymbolAnswer.{SymbolAnswer}
-use Rattle.description.specs.declared.OrderLine.{OrderLine}
-use Rattle.description.specs.declared.MasksLine.{MasksLine}
+use Rattle.std.specs.Prelude.{Option, Some, None, Result, Ok, Err}
+use Rattle.wires.specs.declared.Symbol.{Symbol}
+use Rattle.description.specs.declared.SymbolFault.{SymbolFault}
+use Rattle.description.specs.declared.Masks.{Masks}
 
 -- what stops, or is refused, gets a number below 10
 abbrev Stops : Step → Type 0
@@ -39,10 +40,10 @@ close_stops : (at : ℕ) (around : List Around) (s : State) → Stops (close_ste
 close_stops at [] s = omega arith
 close_stops at (g ∷ around) s = either Stops s.group.filled tt (omega arith)
 
-symbol_stops : (at size : ℕ) (a : SymbolAnswer) (s : State) → Stops (symbol_step at size a s)
-symbol_stops at size SymbolAnswer.NoSuch s = omega arith
-symbol_stops at size SymbolAnswer.NotDeclared s = omega arith
-symbol_stops at size (SymbolAnswer.Known symbol) s = tt
+symbol_stops : (at size : ℕ) (a : Result Symbol SymbolFault) (s : State) → Stops (symbol_step at size a s)
+symbol_stops at size (Err SymbolFault.NoSuch) s = omega arith
+symbol_stops at size (Err SymbolFault.NotDeclared) s = omega arith
+symbol_stops at size (Ok symbol) s = tt
 
 step_stops : (shares declared at : ℕ) (s : State) (c : ℕ) (l : List ℕ) → Stops (step shares declared at s c l)
 step_stops shares declared at s c l =
@@ -73,15 +74,15 @@ listed-low : (order masks : ℕ) (o : Outcome) → Ends o → Low (listed order 
 listed-low order masks (done s) low = tt
 listed-low order masks (refused why at) low = low
 
-masks-low : (text : List ℕ) (order : ℕ) (line : MasksLine) → Low (after_masks text order line)
-masks-low text order MasksLine.Wrong = omega arith
-masks-low text order (MasksLine.Declared m) =
+masks-low : (text : List ℕ) (order : ℕ) (line : Option Masks) → Low (after_masks text order line)
+masks-low text order None = omega arith
+masks-low text order (Some m) =
     listed-low order m.count (run (order + 1) m.declared m.end 0 start (drop m.end text))
     (run_ends (order + 1) m.declared (drop m.end text) m.end 0 start)
 
-order-low : (text : List ℕ) (line : OrderLine) → Low (after_order text line)
-order-low text OrderLine.Wrong = omega arith
-order-low text (OrderLine.Order order) = masks-low text order (masks_line second_at (drop second_at text))
+order-low : (text : List ℕ) (line : Option ℕ) → Low (after_order text line)
+order-low text None = omega arith
+order-low text (Some order) = masks-low text order (masks_line second_at (drop second_at text))
 
 pub below-ten : (text : List ℕ) → Low (reading text)
 below-ten text = either Low (ltb max_text (length text)) (omega arith) (order-low text (order_line text))

@@ -4,12 +4,12 @@
 --     answer_told, size_told  what the code's answer tells
 --     size_of, check_size     what the entry is to tell
 -- `set_counts` and `counted`, the number of sets of each size, and `total_of`, all sets together, are passed on from `sets_by_size`.
-use Rattle.std.specs.Prelude.{ℕ, ◌+◌, ◌*◌, List, length, replicate}
+use Rattle.std.specs.Prelude.{ℕ, ◌+◌, ◌*◌, List, length, replicate, Result, Ok, Err}
 use Rattle.limits.specs.Limits.{max_order, record_bytes}
 use Rattle.description.specs.Run.{refusal_number, Reading, read, turned_down, reading}
+use Rattle.description.specs.declared.Fault.{Fault}
 use Rattle.scratch_reader.specs.Answers.{tableless}
 pub use Rattle.sets_by_size.specs.Counted.{set_counts, counted, total_of}
-use Rattle.plan_text.specs.declared.SizeAnswer.{SizeAnswer}
 use Rattle.plan_text.specs.declared.CheckSize.{CheckSize}
 
 pub data SizeTold : Type 0 where
@@ -20,14 +20,16 @@ pub record Sized : Type 0 where
   pub told : SizeTold
   pub sets : List ℕ
 
-abbrev pub answer_told : SizeAnswer → SizeTold
-answer_told (SizeAnswer.Size order shares masks wires bytes) = figures order shares masks wires bytes
-answer_told (SizeAnswer.Refused why offset) = refused (refusal_number why) offset
+abbrev pub answer_told : Result CheckSize Fault → SizeTold
+answer_told (Ok size) = figures size.order size.shares size.masks size.wires size.bytes
+answer_told (Err fault) = refused (refusal_number fault.why) fault.offset
 
-abbrev pub size_told : CheckSize → Sized
-size_told r = record { told = answer_told r.answer; sets = r.sets }
+-- a text that is turned down has no sets
+abbrev pub size_told : Result CheckSize Fault → Sized
+size_told (Ok size) = record { told = answer_told (Ok size); sets = size.sets }
+size_told (Err fault) = record { told = answer_told (Err fault); sets = replicate max_order 0 }
 
--- shares are order + 1; a text that is turned down has no sets
+-- shares are order + 1
 abbrev pub size_of : Reading → Sized
 size_of (turned_down why offset) = record { told = refused (refusal_number why) offset; sets = replicate max_order 0 }
 size_of (read order masks ws) =

@@ -4,14 +4,15 @@
 --     Figures      reading gives these figures, into every table of so many bytes and into none that is shorter; the set count tells these numbers of sets
 --     Refuses      reading refuses with this number and offset, whatever the table
 --     SizeSays     what each answer says
-use Rattle.std.specs.Prelude.{ℕ, ◌-◌, ◌≤◌, ◌<◌, ◌≡◌, ◌↔◌, List, [], ◌∷◌, length, get_or}
+use Rattle.std.specs.Prelude.{ℕ, ◌-◌, ◌≤◌, ◌<◌, ◌≡◌, ◌↔◌, List, [], ◌∷◌, length, get_or, Result, Ok, Err}
 use Rattle.limits.specs.Limits.{max_order, max_wires}
 use Rattle.basics.specs.Told.{values}
 use Rattle.sets.specs.Answers.{set_count}
 use Rattle.description.specs.Run.{refusal_number}
 use Rattle.description.specs.Grammar.{Description, Spells, Limits, wires_of}
 use Rattle.reader.specs.Answers.{gives, refused, read_text}
-use Rattle.plan_text.specs.declared.SizeAnswer.{SizeAnswer}
+use Rattle.description.specs.declared.Fault.{Fault}
+use Rattle.plan_text.specs.declared.CheckSize.{CheckSize}
 
 pub record OverMany (text : List ℕ) : Type 0 where
   pub description : Description
@@ -30,8 +31,9 @@ pub record Refuses (text : List ℕ) (number offset : ℕ) : Type 0 where
   pub whatever : (table : List ℕ) → (read_text text table).told ≡ refused number offset
   pub ten : (number ≡ 10) ↔ OverMany text
 
-abbrev pub SizeSays : SizeAnswer → List ℕ → List ℕ → Type 0
-SizeSays (SizeAnswer.Size order shares masks wires bytes) sets text =
-    Figures text sets order shares masks wires bytes × (length sets ≡ max_order) × ((k : ℕ) → order ≤ k → get_or sets k 0 ≡ 0)
-SizeSays (SizeAnswer.Refused why offset) sets text =
-    Refuses text (refusal_number why) offset × (length sets ≡ max_order) × ((k : ℕ) → get_or sets k 0 ≡ 0)
+abbrev pub SizeSays : Result CheckSize Fault → List ℕ → Type 0
+SizeSays (Ok size) text =
+    Figures text size.sets size.order size.shares size.masks size.wires size.bytes
+    × (length size.sets ≡ max_order)
+    × ((k : ℕ) → size.order ≤ k → get_or size.sets k 0 ≡ 0)
+SizeSays (Err fault) text = Refuses text (refusal_number fault.why) fault.offset

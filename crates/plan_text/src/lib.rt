@@ -7,64 +7,37 @@ ghost use Rattle.std.specs.Prelude.{◌≡◌};
 ghost use Rattle.plan_text.specs.Answers.{size_told, check_size};
 ghost use Rattle.plan_text.specs.Says.{SizeSays};
 
-use description::Refusal;
+use description::Fault;
 use limits::{MAX_ORDER, MAX_TABLE_BYTES, RECORD_BYTES};
-use scratch_reader::{ReadAnswer, read_scratch};
+use scratch_reader::read_scratch;
 use sets_by_size::set_counts;
 pub use sets_by_size::{total, write_sets};
 
-// The figures of a text, the bytes of the table that it needs among them; or why the text is turned down, and the byte offset.
-#[derive(Clone, Copy)]
-pub enum SizeAnswer {
-    Size {
-        order: usize,
-        shares: usize,
-        masks: usize,
-        wires: usize,
-        bytes: usize,
-    },
-    Refused {
-        why: Refusal,
-        offset: usize,
-    },
-}
-
-// The answer, and beside it the number of sets of size k at k - 1, for the sizes from 1 to the order; the rest is 0.
+// The figures of a text, the bytes of the table that it needs among them, and the number of sets of size k at k - 1, for the sizes from 1 to the
+// order; the rest is 0.
 #[derive(Clone, Copy)]
 pub struct CheckSize {
-    pub answer: SizeAnswer,
+    pub order: usize,
+    pub shares: usize,
+    pub masks: usize,
+    pub wires: usize,
+    pub bytes: usize,
     pub sets: [u64; MAX_ORDER],
 }
 
-// What a check of a text takes.
-pub fn check_size(text: &[u8]) -> CheckSize
+// What a check of a text takes, or why the text is turned down, and the byte offset.
+pub fn check_size(text: &[u8]) -> Result<CheckSize, Fault>
     ensures result_value { size_told result ≡ check_size text.now }
-    ensures size_says { SizeSays result.answer result.sets text.now }
+    ensures size_says { SizeSays result text.now }
 {
     let mut scratch = [0u8; MAX_TABLE_BYTES];
-    let read = read_scratch(text, &mut scratch);
-    match read {
-        ReadAnswer::Refused { why, offset } => CheckSize {
-            answer: SizeAnswer::Refused {
-                why: why,
-                offset: offset,
-            },
-            sets: [0; MAX_ORDER],
-        },
-        ReadAnswer::Read {
-            order,
-            shares,
-            masks,
-            wires,
-        } => CheckSize {
-            answer: SizeAnswer::Size {
-                order: order,
-                shares: shares,
-                masks: masks,
-                wires: wires,
-                bytes: RECORD_BYTES * wires,
-            },
-            sets: set_counts(wires, order),
-        },
-    }
+    let read = read_scratch(text, &mut scratch)?;
+    Ok(CheckSize {
+        order: read.order,
+        shares: read.shares,
+        masks: read.masks,
+        wires: read.wires,
+        bytes: RECORD_BYTES * read.wires,
+        sets: set_counts(read.wires, read.order),
+    })
 }

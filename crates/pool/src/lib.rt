@@ -14,8 +14,8 @@ use filed_tests::all_filed;
 pub use filing::filed_report;
 use finds::{all_break, least_found};
 use limits::RECORD_BYTES;
-use opening::{Opened, opening};
-pub use pool_answers::{FilingAnswer, PoolAnswer, Refusal};
+use opening::opening;
+pub use pool_answers::{Outcome, Refusal};
 use verdict_answers::Refusal as Untested;
 
 // What the reports come to, of a table, a notion and an order.
@@ -26,47 +26,40 @@ pub fn pool(
     notion: usize,
     order: usize,
     reports: &[u8],
-) -> PoolAnswer
+) -> Result<Outcome, Refusal>
     ensures result_value { pool_told result ≡ pool_of table.now shares masks notion order reports.now }
     ensures pool_says { PoolSays result table.now shares masks notion order reports.now }
     ensures pool_agrees { PoolAgrees result table.now shares masks notion order reports.now }
 {
-    let opened = opening(table, shares, masks, notion);
-    match opened {
-        Opened::Refused(why) => PoolAnswer::Refused(Refusal::Tests(why)),
-        Opened::For(kind) => {
-            if order < 1 {
-                return PoolAnswer::Refused(Refusal::Tests(Untested::OrderOutOfRange));
-            }
-            if shares <= order {
-                return PoolAnswer::Refused(Refusal::Tests(Untested::OrderOutOfRange));
-            }
-            if reports.len() % REPORT_BYTES != 0 {
-                return PoolAnswer::Refused(Refusal::Misfiled);
-            }
-            let counts = counts::table();
-            let wires = table.len() / RECORD_BYTES;
-            if !all_filed(reports, &counts, wires, notion, order) {
-                return PoolAnswer::Refused(Refusal::Misfiled);
-            }
-            if !all_break(table, &counts, kind, reports) {
-                return PoolAnswer::Refused(Refusal::FalseFind);
-            }
-            let found = least_found(reports);
-            if found.size != 0 {
-                return PoolAnswer::Broken {
-                    size: found.size,
-                    rank: found.rank,
-                };
-            }
-            let missing = first_uncovered(reports, &counts, wires, order);
-            if missing.size != 0 {
-                return PoolAnswer::Uncovered {
-                    size: missing.size,
-                    rank: missing.rank,
-                };
-            }
-            PoolAnswer::Holds
-        }
+    let kind = opening(table, shares, masks, notion)?;
+    if order < 1 {
+        return Err(Refusal::Tests(Untested::OrderOutOfRange));
     }
+    if shares <= order {
+        return Err(Refusal::Tests(Untested::OrderOutOfRange));
+    }
+    if reports.len() % REPORT_BYTES != 0 {
+        return Err(Refusal::Misfiled);
+    }
+    let counts = counts::table();
+    let wires = table.len() / RECORD_BYTES;
+    if !all_filed(reports, &counts, wires, notion, order) {
+        return Err(Refusal::Misfiled);
+    }
+    if !all_break(table, &counts, kind, reports) {
+        return Err(Refusal::FalseFind);
+    }
+    if let Some(found) = least_found(reports) {
+        return Ok(Outcome::Broken {
+            size: found.size,
+            rank: found.rank,
+        });
+    }
+    if let Some(missing) = first_uncovered(reports, &counts, wires, order) {
+        return Ok(Outcome::Uncovered {
+            size: missing.size,
+            rank: missing.rank,
+        });
+    }
+    Ok(Outcome::Holds)
 }

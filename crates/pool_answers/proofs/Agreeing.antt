@@ -10,6 +10,7 @@ use mathlib.Core.Bool.{Bool, true, false, true≢false}
 use mathlib.Core.List.{List, [], ◌∷◌, map}
 use lib.ListN.{length}
 use Rattle.limits.specs.Limits.{max_size}
+use Rattle.std.specs.Prelude.{Result, Ok, Err}
 use Rattle.basics.specs.Folds.{keep, up_to}
 use Rattle.basics.specs.Told.{Lent}
 use Rattle.basics.proofs.Folds.{up_to-length}
@@ -32,7 +33,8 @@ use Rattle.verdict_answers.proofs.Conditions.{verdict_answered}
 use Rattle.verdict_answers.proofs.First as first
 use Rattle.verdict_answers.proofs.Watching as watching
 use Rattle.verdict_answers.proofs.Watching.{set-watched, watched-set, all_choose}
-use Rattle.pool_answers.specs.declared.PoolAnswer.{PoolAnswer}
+use Rattle.pool_answers.specs.declared.Refusal.{Refusal}
+use Rattle.pool_answers.specs.declared.Outcome.{Outcome}
 use Rattle.pool_answers.specs.Answers.{pool_told, pool_of}
 use Rattle.pool_answers.specs.Says.{IsCovered, NoneReported, AllCovered, FirstReported, Pooled}
 use Rattle.pool_answers.specs.Agrees.{AllTrue, PoolAgrees}
@@ -131,9 +133,9 @@ module _ (table : List ℕ) (shares masks notion order : ℕ) (reports : List �
 -- ---- of the code's answer
 
 module _ (table : List ℕ) (shares masks notion order : ℕ) (reports : List ℕ) where
-  pub pool_agrees : (answer : PoolAnswer) → pool_told answer ≡ pool_of table shares masks notion order reports
+  pub pool_agrees : (answer : Result Outcome Refusal) → pool_told answer ≡ pool_of table shares masks notion order reports
       → PoolAgrees answer table shares masks notion order reports
-  pool_agrees PoolAnswer.Holds e =
+  pool_agrees (Ok Outcome.Holds) e =
       let p = (pool_asked table shares masks notion order reports).0 (1 ∷ [], sym e) in
       let h = (holds-exactly table shares masks notion order reports p).0 (sym e) in record {
         holds = λ same clean. holds_too table shares masks notion order reports p clean h.0 h.1;
@@ -141,7 +143,7 @@ module _ (table : List ℕ) (shares masks notion order : ℕ) (reports : List �
         breaks = λ size rank same. let z : ◌≡◌ {A = ℕ} 0 1 = cc in absurd (omega (arith, z));
         shows = λ size rank same. let z : ◌≡◌ {A = ℕ} 0 1 = cc in absurd (omega (arith, z));
       }
-  pool_agrees (PoolAnswer.Broken size rank) e =
+  pool_agrees (Ok (Outcome.Broken size rank)) e =
       let p = (pool_asked table shares masks notion order reports).0 (2 ∷ size ∷ rank ∷ [], sym e) in
       let f = (broken-exactly table shares masks notion order reports p size rank).0 (sym e) in record {
         holds = λ same. let z : ◌≡◌ {A = ℕ} 0 1 = cc in absurd (omega (arith, z));
@@ -164,13 +166,13 @@ module _ (table : List ℕ) (shares masks notion order : ℕ) (reports : List �
             × (verdict_of table shares masks notion order buffer ≡ broken set buffer) × NotAfter (wire_count table) set (set_at (wire_count table) x rank)) i
             (found-shown table shares masks notion order reports p size rank f));
       }
-  pool_agrees (PoolAnswer.Uncovered size rank) e = record {
+  pool_agrees (Ok (Outcome.Uncovered size rank)) e = record {
     holds = λ same. let z : ◌≡◌ {A = ℕ} 0 1 = cc in absurd (omega (arith, z));
     guards = λ same. let z : ◌≡◌ {A = ℕ} 0 1 = cc in absurd (omega (arith, z));
     breaks = λ k r same. let z : ◌≡◌ {A = ℕ} 0 1 = cc in absurd (omega (arith, z));
     shows = λ k r same. let z : ◌≡◌ {A = ℕ} 0 1 = cc in absurd (omega (arith, z));
   }
-  pool_agrees (PoolAnswer.Refused why) e = record {
+  pool_agrees (Err why) e = record {
     holds = λ same. let z : ◌≡◌ {A = ℕ} 0 1 = cc in absurd (omega (arith, z));
     guards = λ same. let z : ◌≡◌ {A = ℕ} 0 1 = cc in absurd (omega (arith, z));
     breaks = λ k r same. let z : ◌≡◌ {A = ℕ} 0 1 = cc in absurd (omega (arith, z));

@@ -1,80 +1,32 @@
 -- Which call gets which number: each entry tells a refusal exactly when its condition is the first that holds, values exactly when none does.
---     wrong_list, false-finds         the tests of a list of reports decide
---     pooled-told                     the pool's own answer is values
 --     pool_chain, pool_settled        the pool, for all arguments
 --     pool_asked, pool_answered       values are told exactly where no test turns the call down, and which
 use Prim.Native.Nat.{ℕ, ◌%◌, ◌≤◌, ◌<◌}
 use native.Mathlib.Omega.{arith}
 use mathlib.Core.Path.{◌≡◌, refl, sym, ◌∙◌, subst}
 use mathlib.Core.Logic.Iff
-use mathlib.Core.Logic.{◌↔◌, ◌⊎◌, inl, inr, ⊎_elim}
-use mathlib.Core.Bool.{Bool, true, false, not, ◌||◌, true≢false}
+use mathlib.Core.Logic.{◌↔◌, inl, inr, ⊎_elim}
+use mathlib.Core.Bool.{Bool, true, false, true≢false}
 use mathlib.Core.List.{List}
-use lib.Dec.{eqb}
 use lib.ListN.{length}
 use Rattle.basics.specs.Told.{Told, values, refusal}
 use Rattle.basics.specs.Conditions.{None, Settles}
-use Rattle.basics.proofs.Conditions.{Chain, own, test, settles-told, equal, fails, both, one_of, not_both, not_least, not_less, some_decides}
+use Rattle.basics.proofs.Conditions.{Chain, own, test, settles-told, not_both, not_least, not_less}
 use Rattle.basics.proofs.Numbers.{alike}
 use Rattle.records.specs.Layout.{wire_count}
 use Rattle.counts.specs.Counts.{binom}
 use Rattle.revolving.specs.Order.{set_at}
 use Rattle.breaking.specs.Breaking.{is_breaking}
 use Rattle.table.proofs.Conditions.{sound_none, none-sound, accepted_exactly}
-use Rattle.filed_reports.specs.Bytes.{report_bytes, all_ones, report_at, report_count}
-use Rattle.filed_reports.specs.Filed.{any_misfiled, covered, reported}
-use Rattle.filed_reports.specs.Places.{NoPlace, FirstPlace, first_place}
-use Rattle.filed_reports.proofs.Filed.{any-misfiled, filed-exactly}
-use Rattle.filed_reports.proofs.Places.{place_either, first_place-is, no_place_is}
-use Rattle.finds.specs.Finds.{false_find, any_false}
+use Rattle.filed_reports.specs.Bytes.{report_bytes, report_at}
+use Rattle.filed_reports.proofs.Filed.{filed-exactly}
 use Rattle.verdict_answers.specs.Answers.{notion_of}
 use Rattle.verdict_answers.proofs.Conditions.{opened_chain}
-use Rattle.pool_answers.specs.Answers.{holds_told, broken_told, uncovered_told, pooled, pool_of}
-use Rattle.pool_answers.specs.Conditions.{WrongList, FalseFinds, pool_conditions}
+use Rattle.pool_answers.specs.Answers.{pooled, pool_of}
+use Rattle.pool_answers.specs.Conditions.{pool_conditions}
 use Rattle.pool_answers.specs.Says.{Pooled}
-
-false-exactly : (b : Bool) → (not b ≡ true) ↔ (b ≡ false)
-false-exactly true = (λ e. sym e, λ e. sym e)
-false-exactly false = (λ e. refl, λ e. refl)
-
-pub wrong_list : (table : List ℕ) (notion order : ℕ) (reports : List ℕ)
-    → ((not (eqb (length reports % report_bytes) 0) || any_misfiled (binom (wire_count table)) notion order reports) ≡ true)
-    ↔ WrongList table notion order reports
-wrong_list table notion order reports =
-    one_of (fails (equal (length reports % report_bytes) 0)) (any-misfiled (binom (wire_count table)) notion order reports)
-
-pub false-finds : (table : List ℕ) (shares masks notion : ℕ) (reports : List ℕ)
-    → (any_false (is_breaking (notion_of notion) table shares masks) (wire_count table) reports ≡ true) ↔ FalseFinds table shares masks notion reports
-unfolding any_false
-false-finds table shares masks notion reports =
-    some_decides (report_count reports) (λ i. false_find (is_breaking (notion_of notion) table shares masks) (wire_count table) (report_at reports i))
-    (λ i. both (fails (equal (report_at reports i).found all_ones))
-    (false-exactly (is_breaking (notion_of notion) table shares masks (set_at (wire_count table) (report_at reports i).size (report_at reports i).found))))
-
-module _ (wires order : ℕ) (reports : List ℕ) where
-  abbrev Uncovered : ℕ → ℕ → Bool
-  Uncovered size rank = not (covered reports size rank)
-
-  pub pooled-told : (l : List ℕ) × (pooled wires order reports ≡ values l)
-  pooled-told = go (place_either (binom wires) (reported reports) order) (place_either (binom wires) Uncovered order)
-    where
-      rest : Told
-      rest = first_place (binom wires) Uncovered uncovered_told order holds_told
-
-      go : NoPlace (binom wires) (reported reports) order ⊎ ((size rank : ℕ) × FirstPlace (binom wires) (reported reports) order size rank)
-          → NoPlace (binom wires) Uncovered order ⊎ ((size rank : ℕ) × FirstPlace (binom wires) Uncovered order size rank)
-          → (l : List ℕ) × (pooled wires order reports ≡ values l)
-      go (inr f) x = (_, first_place-is (binom wires) (reported reports) broken_told order f.0 f.1 _ f.2)
-      go (inl none) (inr u) = (
-        _,
-        no_place_is (binom wires) (reported reports) broken_told order _ none
-            ∙ first_place-is (binom wires) Uncovered uncovered_told order u.0 u.1 _ u.2,
-      )
-      go (inl none) (inl whole) = (
-        _,
-        no_place_is (binom wires) (reported reports) broken_told order _ none
-            ∙ no_place_is (binom wires) Uncovered uncovered_told order _ whole,
-      )
+use Rattle.pool_answers.proofs.Tests.{wrong_list_lem, false-finds}
+use Rattle.pool_answers.proofs.Telling.{pooled-told}
 
 module _ (table : List ℕ) (shares masks notion order : ℕ) (reports : List ℕ) where
   abbrev told : Told
@@ -84,7 +36,7 @@ module _ (table : List ℕ) (shares masks notion order : ℕ) (reports : List �
   pool_chain =
       opened_chain table shares masks notion
       (test 15 (not_both (not_least 1 order) (not_less order shares))
-      (test 25 (wrong_list table notion order reports)
+      (test 25 (wrong_list_lem table notion order reports)
       (test 26 (false-finds table shares masks notion reports)
       (own refusal told))))
 

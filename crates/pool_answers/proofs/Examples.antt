@@ -11,6 +11,7 @@ use mathlib.Core.Path.{◌≡◌, refl, sym, ◌∙◌, ap}
 use mathlib.Core.Logic.{⊎_elim}
 use mathlib.Core.Bool.{xor}
 use mathlib.Core.List.{List, [], ◌∷◌, ◌++◌, map}
+use Rattle.std.specs.Prelude.{Ok}
 use Rattle.basics.specs.Folds.{up_to}
 use Rattle.basics.specs.Told.{Told, Lent, values, refusal}
 use Rattle.basics.specs.Conditions.{Some}
@@ -27,7 +28,7 @@ use Rattle.finds.specs.Finds.{any_false}
 use Rattle.verdict_answers.specs.declared.Refusal.TheVariants.{NoSuchNotion}
 use Rattle.verdict_answers.proofs.Examples.{pair, two_wires}
 use Rattle.pool_answers.specs.declared.Refusal.TheVariants.{Tests, Misfiled, FalseFind}
-use Rattle.pool_answers.specs.declared.PoolAnswer.{PoolAnswer}
+use Rattle.pool_answers.specs.declared.Outcome.{Outcome}
 use Rattle.pool_answers.specs.Answers.{refusal_number, pool_told, pool_of, report_of}
 use Rattle.pool_answers.specs.Says.{PoolSays}
 use Rattle.pool_answers.specs.Agrees.{PoolAgrees}
@@ -65,8 +66,8 @@ unfolding any_misfiled any_false covered reported first_rank is_breaking revolvi
 pool_refusals = (refl, refl, refl, refl, refl, refl, refl, refl, refl, refl, refl, refl, refl)
 
 -- what each answer is in numbers
-pub numbers : (pool_told PoolAnswer.Holds ≡ values (1 ∷ [])) × (pool_told (PoolAnswer.Broken 2 5) ≡ values (2 ∷ 2 ∷ 5 ∷ []))
-    × (pool_told (PoolAnswer.Uncovered 2 5) ≡ values (3 ∷ 2 ∷ 5 ∷ []))
+pub numbers : (pool_told (Ok Outcome.Holds) ≡ values (1 ∷ [])) × (pool_told (Ok (Outcome.Broken 2 5)) ≡ values (2 ∷ 2 ∷ 5 ∷ []))
+    × (pool_told (Ok (Outcome.Uncovered 2 5)) ≡ values (3 ∷ 2 ∷ 5 ∷ []))
     × (map refusal_number (Tests NoSuchNotion ∷ Misfiled ∷ FalseFind ∷ []) ≡ 14 ∷ 25 ∷ 26 ∷ [])
 numbers = (refl, refl, refl, refl)
 
@@ -77,7 +78,7 @@ unfolding binom
 four_pairs = refl
 
 -- holds, where the pairs are in no report
-pub holds-refused : PoolSays PoolAnswer.Holds pair 3 1 1 2 (clean 1 0 4) → ⊥
+pub holds-refused : PoolSays (Ok Outcome.Holds) pair 3 1 1 2 (clean 1 0 4) → ⊥
 holds-refused p = go ((p.holds refl).1 2 0 (omega arith) (omega arith) (omega (arith, four_pairs)))
   where
     go : Some 1 (λ i. Covers (report_at (clean 1 0 4) i) 2 0) → ⊥
@@ -85,17 +86,17 @@ holds-refused p = go ((p.holds refl).1 2 0 (omega arith) (omega arith) (omega (a
     go (suc i, h, c) = omega (arith, h)
 
 -- a find, where an earlier one is reported
-pub later-refused : PoolSays (PoolAnswer.Broken 1 7) table_b 2 1 1 1 (ni 1 6 9 7 ++ ni 1 6 9 6) → ⊥
+pub later-refused : PoolSays (Ok (Outcome.Broken 1 7)) table_b 2 1 1 1 (ni 1 6 9 7 ++ ni 1 6 9 6) → ⊥
 later-refused p =
     ⊎_elim (λ h. omega (arith, h)) (λ h. omega (arith, h.1))
     ((p.broken 1 7 refl).first 1 6 (1, omega arith, record { found = λ e. omega (arith, e); same = refl; here = refl }))
 
 -- uncovered, where a find is reported
-pub uncovered-refused : PoolSays (PoolAnswer.Uncovered 1 0) table_b 2 1 1 1 (ni 1 6 9 6) → ⊥
+pub uncovered-refused : PoolSays (Ok (Outcome.Uncovered 1 0)) table_b 2 1 1 1 (ni 1 6 9 6) → ⊥
 uncovered-refused p = (p.uncovered 1 0 refl).0 1 6 (0, omega arith, record { found = λ e. omega (arith, e); same = refl; here = refl })
 
 -- uncovered, with a rank before it in no report
-pub rank-refused : PoolSays (PoolAnswer.Uncovered 1 5) table_a 2 1 1 1 (clean 1 0 4) → ⊥
+pub rank-refused : PoolSays (Ok (Outcome.Uncovered 1 5)) table_a 2 1 1 1 (clean 1 0 4) → ⊥
 rank-refused p = go ((p.uncovered 1 5 refl).1.before 4 (omega arith))
   where
     go : Some 1 (λ i. Covers (report_at (clean 1 0 4) i) 1 4) → ⊥
@@ -103,7 +104,7 @@ rank-refused p = go ((p.uncovered 1 5 refl).1.before 4 (omega arith))
     go (suc i, h, c) = omega (arith, h)
 
 -- holds, with no report, of a table that a pair breaks: in words of the verdict alone
-pub agrees_refused : PoolAgrees PoolAnswer.Holds pair 3 1 1 2 [] → ⊥
+pub agrees_refused : PoolAgrees (Ok Outcome.Holds) pair 3 1 1 2 [] → ⊥
 agrees_refused p =
     let e = p.holds refl (record { clean = λ i h. absurd (not-suc-le-zero h) }) (9 ∷ 9 ∷ 9 ∷ []) (omega arith) in
     let f = ap (λ (l : List Lent). told_of l) two_wires.0 in

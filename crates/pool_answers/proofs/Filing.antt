@@ -6,21 +6,22 @@
 --     writes_stands               such a report exists exactly where the numbers could stand in some report
 --     filing_settled              which call gets which number
 --     filing_means                what the code's answer says
-use Prim.Native.Nat.{ℕ, ◌^◌, ◌≤◌, ◌<◌}
+use Prim.Native.Nat.{ℕ, ◌^◌, ◌<◌}
 use native.Mathlib.Nat.{le_refl, le_trans}
 use native.Mathlib.Omega.{arith}
 use mathlib.Core.Path.{◌≡◌, refl, sym, ◌∙◌, ap, subst}
 use mathlib.Core.Logic.{◌↔◌, ◌⊎◌, inl, inr, ⊎_elim}
-use mathlib.Core.Bool.{Bool, true, false, cond, not, ◌&&◌, ◌||◌, true≢false}
+use mathlib.Core.Bool.{Bool, true, false, cond, not, ◌||◌, true≢false}
 use mathlib.Core.List.{List, []}
-use borrow.Author.Tests.{eq-eqb, ne_eqb, not-false}
-use lib.Dec.{eqb, leb, ltb}
+use borrow.Author.Tests.{eq-eqb, ne_eqb}
+use lib.Dec.{eqb}
 use lib.ListN.{length}
+use Rattle.std.specs.Prelude.{Result, Ok, Err}
 use Rattle.basics.proofs.Tests.{failed}
 use Rattle.limits.specs.Limits.{max_wires, max_size}
 use Rattle.basics.specs.Told.{Lent, values, refusal, turned_down}
 use Rattle.basics.specs.Conditions.{SettlesLent}
-use Rattle.basics.proofs.Conditions.{equal, less, least, neither, both, fails, one_of, values-refusal}
+use Rattle.basics.proofs.Conditions.{equal, neither, one_of, values-refusal}
 use Rattle.basics.proofs.Numbers.{alike}
 use Rattle.counts.specs.Counts.{binom}
 use Rattle.counts.proofs.Binomial.{largest, counts_fit, binom_wider}
@@ -29,13 +30,15 @@ use Rattle.filed_reports.specs.Bytes.{report_bytes, all_ones, report_at, bytes_o
 use Rattle.filed_reports.specs.Filed.{misfiled, Filed, Misfiled}
 use Rattle.filed_reports.proofs.Bytes.{Fits, read-written}
 use Rattle.filed_reports.proofs.Filed.{misfiled-exactly, filed-exactly}
-use Rattle.verdict_answers.specs.declared.RangeAnswer.{RangeAnswer}
+use Rattle.verdict_answers.specs.declared.Checked.{Checked}
+use Rattle.verdict_answers.specs.declared.Refusal as verdict-refusal
 use Rattle.verdict_answers.specs.Answers.{wrong_notion}
 use Rattle.verdict_answers.specs.Conditions.{WrongNotion}
-use Rattle.pool_answers.specs.declared.FilingAnswer.{FilingAnswer}
-use Rattle.pool_answers.specs.Answers.{refusal_number, report_of, written, filing_told, filed_as, answer_filed, filed_report}
+use Rattle.pool_answers.specs.declared.Refusal.{Refusal}
+use Rattle.pool_answers.specs.Answers.{refusal_number, report_of, written, filing_told, filed_as, between, answer_filed, filed_report}
 use Rattle.pool_answers.specs.Conditions.{Answered, CouldStand, filing_conditions}
 use Rattle.pool_answers.specs.Says.{FilingMeans}
+use Rattle.pool_answers.proofs.Tests.{between-exactly}
 
 -- ---- a report of which only the found rank is left open
 
@@ -105,17 +108,17 @@ filed-fits r f =
 -- ---- of an answer
 
 module _ (notion size from to : ℕ) where
-  pub record Writes (answer : RangeAnswer) : Type 0 where
+  pub record Writes (answer : Result Checked verdict-refusal.Refusal) : Type 0 where
     pub found : ℕ
     pub answered : Answered size from to answer found
     pub fileable : Fileable (report_of notion size from to found)
 
   -- the report is written, or nothing is
-  abbrev Told : RangeAnswer → List ℕ → Lent → Type 0
+  abbrev Told : Result Checked verdict-refusal.Refusal → List ℕ → Lent → Type 0
   Told answer buffer told =
       ((w : Writes answer) × (told ≡ written (report_of notion size from to w.found))) ⊎ ((Writes answer → ⊥) × (told ≡ turned_down 25 buffer))
 
-  file_told : (answer : RangeAnswer) (found : ℕ) (buffer : List ℕ) → Answered size from to answer found
+  file_told : (answer : Result Checked verdict-refusal.Refusal) (found : ℕ) (buffer : List ℕ) → Answered size from to answer found
       → ((w : Writes answer) → w.found ≡ found) → Told answer buffer (filed_as (report_of notion size from to found) buffer)
   file_told answer found buffer a only = go (fileable_or_not (report_of notion size from to found))
     where
@@ -126,34 +129,29 @@ module _ (notion size from to : ℕ) where
         filed_no (report_of notion size from to found) buffer d,
       )
 
-  answer-told : (answer : RangeAnswer) (buffer : List ℕ) → Told answer buffer (answer_filed notion size from to answer buffer)
-  answer-told RangeAnswer.Clean buffer = file_told RangeAnswer.Clean all_ones buffer refl (λ w. w.answered)
-  answer-told (RangeAnswer.Found k rank) buffer = go (not (eqb k size && (leb from rank && ltb rank to))) refl
+  answer-told : (answer : Result Checked verdict-refusal.Refusal) (buffer : List ℕ) → Told answer buffer (answer_filed notion size from to answer buffer)
+  answer-told (Ok Checked.Clean) buffer = file_told (Ok Checked.Clean) all_ones buffer refl (λ w. w.answered)
+  answer-told (Ok (Checked.Found k rank)) buffer = go (between size from to k rank) refl
     where
-      between : (not (eqb k size && (leb from rank && ltb rank to)) ≡ true) ↔ (((k ≡ size) × ((from ≤ rank) × (rank < to))) → ⊥)
-      between = fails (both (equal k size) (both (least from rank) (less rank to)))
+      go : (b : Bool) → between size from to k rank ≡ b
+          → Told (Ok (Checked.Found k rank)) buffer (cond (not b) (turned_down 25 buffer) (filed_as (report_of notion size from to rank) buffer))
+      go true e = file_told (Ok (Checked.Found k rank)) rank buffer ((between-exactly size from to k rank).0 e) (λ w. w.answered.3)
+      go false e = inr (
+        λ w. let a = w.answered in true≢false (sym ((between-exactly size from to k rank).1 (a.0, a.1, a.2, refl)) ∙ e),
+        refl,
+      )
+  answer-told (Err why) buffer = inr (λ w. w.answered, refl)
 
-      within : not (eqb k size && (leb from rank && ltb rank to)) ≡ false → (k ≡ size) × ((from ≤ rank) × (rank < to))
-      within e = (both (equal k size) (both (least from rank) (less rank to))).0 (not-false (eqb k size && (leb from rank && ltb rank to)) e)
-
-      go : (b : Bool) → not (eqb k size && (leb from rank && ltb rank to)) ≡ b
-          → Told (RangeAnswer.Found k rank) buffer (cond b (turned_down 25 buffer) (filed_as (report_of notion size from to rank) buffer))
-      go true e = inr (λ w. let a = w.answered in between.0 e (a.0, (a.1, a.2)), refl)
-      go false e =
-          let i = within e in
-          file_told (RangeAnswer.Found k rank) rank buffer (i.0, i.1.0, i.1.1, refl) (λ w. w.answered.3)
-  answer-told (RangeAnswer.Refused why) buffer = inr (λ w. w.answered, refl)
-
-  abbrev pub Written : RangeAnswer → List ℕ → Type 0
+  abbrev pub Written : Result Checked verdict-refusal.Refusal → List ℕ → Type 0
   Written answer buffer = (w : Writes answer) × (length buffer ≡ report_bytes)
       × (filed_report notion size from to answer buffer ≡ written (report_of notion size from to w.found))
 
-  abbrev pub NotWritten : RangeAnswer → List ℕ → Type 0
+  abbrev pub NotWritten : Result Checked verdict-refusal.Refusal → List ℕ → Type 0
   NotWritten answer buffer =
       ((length buffer ≡ report_bytes → ⊥) ⊎ (Writes answer → ⊥)) × (filed_report notion size from to answer buffer ≡ turned_down 25 buffer)
 
   -- which of the two it is
-  pub file_either : (answer : RangeAnswer) (buffer : List ℕ)
+  pub file_either : (answer : Result Checked verdict-refusal.Refusal) (buffer : List ℕ)
       → Written answer buffer ⊎ NotWritten answer buffer
   file_either answer buffer = go (alike (length buffer) report_bytes) (answer-told answer buffer)
     where
@@ -167,7 +165,7 @@ module _ (notion size from to : ℕ) where
       go (yes e) (inl w) = inl (w.0, e, long true (eq-eqb (length buffer) report_bytes e) ∙ w.1)
       go (yes e) (inr n) = inr (inr n.0, long true (eq-eqb (length buffer) report_bytes e) ∙ n.1)
 
-  pub is-written : (answer : RangeAnswer) (buffer bytes : List ℕ) → filed_report notion size from to answer buffer ≡ record { told = values []; held = bytes }
+  pub is-written : (answer : Result Checked verdict-refusal.Refusal) (buffer bytes : List ℕ) → filed_report notion size from to answer buffer ≡ record { told = values []; held = bytes }
       → (w : Writes answer) × (bytes ≡ bytes_of_report (report_of notion size from to w.found))
   is-written answer buffer bytes e = go (file_either answer buffer)
     where
@@ -177,14 +175,14 @@ module _ (notion size from to : ℕ) where
       go (inr n) = absurd (values-refusal [] 25 (ap (λ (a : Lent). a.told) (sym e ∙ n.1)))
 
   -- a range check's answer has one found rank
-  pub writes_only : (answer : RangeAnswer) (v w : Writes answer) → v.found ≡ w.found
-  writes_only RangeAnswer.Clean v w = v.answered ∙ sym w.answered
-  writes_only (RangeAnswer.Found k rank) v w = v.answered.3 ∙ sym w.answered.3
-  writes_only (RangeAnswer.Refused why) v w = absurd v.answered
+  pub writes_only : (answer : Result Checked verdict-refusal.Refusal) (v w : Writes answer) → v.found ≡ w.found
+  writes_only (Ok Checked.Clean) v w = v.answered ∙ sym w.answered
+  writes_only (Ok (Checked.Found k rank)) v w = v.answered.3 ∙ sym w.answered.3
+  writes_only (Err why) v w = absurd v.answered
 
   -- ---- where the numbers could stand in some report
 
-  pub writes_stands : (answer : RangeAnswer) → Writes answer ↔ CouldStand notion size from to answer
+  pub writes_stands : (answer : Result Checked verdict-refusal.Refusal) → Writes answer ↔ CouldStand notion size from to answer
   writes_stands answer = (
     λ w. record {
       found = w.found;
@@ -214,7 +212,7 @@ module _ (notion size from to : ℕ) where
     },
   )
 
-  pub filing_settled : (answer : RangeAnswer) (buffer : List ℕ)
+  pub filing_settled : (answer : Result Checked verdict-refusal.Refusal) (buffer : List ℕ)
       → SettlesLent (filing_conditions notion size from to answer buffer) buffer (filed_report notion size from to answer buffer)
   filing_settled answer buffer = go (file_either answer buffer)
     where
@@ -246,9 +244,9 @@ module _ (notion size from to : ℕ) where
           }
 
   -- what the code's answer says
-  pub filing_means : (answer : RangeAnswer) (buffer : List ℕ) (told : FilingAnswer) (held : List ℕ)
+  pub filing_means : (answer : Result Checked verdict-refusal.Refusal) (buffer : List ℕ) (told : Result (Unit {0}) Refusal) (held : List ℕ)
       → filing_told told held ≡ filed_report notion size from to answer buffer → FilingMeans told notion size from to answer buffer held
-  filing_means answer buffer FilingAnswer.Filed held e =
+  filing_means answer buffer (Ok done) held e =
       let w = is-written answer buffer held (sym e) in
       let r = report_of notion size from to w.0.found in
       record {
@@ -266,12 +264,12 @@ module _ (notion size from to : ℕ) where
       long : Written answer buffer ⊎ NotWritten answer buffer → length buffer ≡ report_bytes
       long (inl w) = w.1
       long (inr n) = absurd (values-refusal [] 25 (ap (λ (a : Lent). a.told) (e ∙ n.1)))
-  filing_means answer buffer (FilingAnswer.Refused why) held e = go (file_either answer buffer)
+  filing_means answer buffer (Err why) held e = go (file_either answer buffer)
     where
       absurd_one : ◌≡◌ {A = ℕ} 0 1 → ⊥
       absurd_one z = omega (arith, z)
 
-      go : Written answer buffer ⊎ NotWritten answer buffer → FilingMeans (FilingAnswer.Refused why) notion size from to answer buffer held
+      go : Written answer buffer ⊎ NotWritten answer buffer → FilingMeans (Err why) notion size from to answer buffer held
       go (inl w) = absurd (values-refusal [] (refusal_number why) (ap (λ (a : Lent). a.told) (sym w.2 ∙ sym e)))
       go (inr n) = record {
         files-exactly = (

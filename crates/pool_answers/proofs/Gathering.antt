@@ -16,6 +16,7 @@ use mathlib.Core.Bool.{Bool, true, false, true≢false}
 use mathlib.Core.List.{List, [], ◌∷◌}
 use lib.ListN.{length, take}
 use Rattle.limits.specs.Limits.{max_wires, max_size}
+use Rattle.std.specs.Prelude.{Result, Ok, Err}
 use Rattle.basics.specs.Told.{Told, Lent, values}
 use Rattle.basics.proofs.Numbers.{alike}
 use Rattle.wires.specs.declared.Notion.{Notion}
@@ -37,7 +38,8 @@ use Rattle.filed_reports.specs.declared.Report.{Report}
 use Rattle.filed_reports.specs.Bytes.{all_ones, report_at, report_count}
 use Rattle.filed_reports.specs.Filed.{Filed, Covers, Finds}
 use Rattle.filed_reports.proofs.Bytes.{read_at}
-use Rattle.verdict_answers.specs.declared.RangeAnswer.{RangeAnswer}
+use Rattle.verdict_answers.specs.declared.Checked.{Checked}
+use Rattle.verdict_answers.specs.declared.Refusal as verdict-refusal
 use Rattle.verdict_answers.specs.Answers.{notion_of, range_told, range_check}
 use Rattle.verdict_answers.specs.First.{NotAfter, FirstBreaking, FirstInRange, RangeFinds}
 use Rattle.verdict_answers.specs.Conditions.{WrongNotion}
@@ -51,7 +53,8 @@ use Rattle.pool_answers.specs.Answers.{broken_told, uncovered_told, pool_of, rep
 use Rattle.pool_answers.specs.Conditions.{Answered}
 use Rattle.pool_answers.specs.Says.{Reported, IsCovered, NoneReported, AllCovered, FirstReported, FirstUncovered, Pooled}
 use Rattle.pool_answers.specs.Agrees.{AllTrue}
-use Rattle.pool_answers.specs.Gathered.{bytes_at, Checked, Campaign, JobReport, Gathered, All, But, PoolIsVerdict}
+use Rattle.pool_answers.specs.Gathered as gathered
+use Rattle.pool_answers.specs.Gathered.{bytes_at, Campaign, JobReport, Gathered, All, But, PoolIsVerdict}
 use Rattle.pool_answers.proofs.Filing.{filed-fits, Writes, is-written}
 use Rattle.pool_answers.proofs.Saying.{within, uncovered-exactly, Found, Missing, Whole, three}
 use Rattle.pool_answers.proofs.Agreeing.{holds_too, found-breaks}
@@ -63,7 +66,7 @@ no_wires notion table shares masks = empty-breaks-nothing notion shares masks
 -- ---- what was filed from a range check's answer
 
 module _ (table : List ℕ) (shares masks notion : ℕ) (reports : List ℕ) (size from to i : ℕ)
-    (c : Checked table shares masks notion size from to (bytes_at reports i)) where
+    (c : gathered.Checked table shares masks notion size from to (bytes_at reports i)) where
   abbrev wires : ℕ
   wires = wire_count table
 
@@ -82,36 +85,36 @@ module _ (table : List ℕ) (shares masks notion : ℕ) (reports : List ℕ) (si
   asked_there = (range_asked table shares masks notion size from to c.buffer).0
       (go c.answer w.answered (ap (λ (a : Lent). a.told) (sym c.answers)))
     where
-      go : (answer : RangeAnswer) → Answered size from to answer w.found
+      go : (answer : Result Checked verdict-refusal.Refusal) → Answered size from to answer w.found
           → (range_check table shares masks notion size from to c.buffer).told ≡ (range_told answer c.held).told
           → (l : List ℕ) × ((range_check table shares masks notion size from to c.buffer).told ≡ values l)
-      go RangeAnswer.Clean a e = ([], e)
-      go (RangeAnswer.Found k rank) a e = (k ∷ rank ∷ [], e)
-      go (RangeAnswer.Refused why) a e = absurd a
+      go (Ok Checked.Clean) a e = ([], e)
+      go (Ok (Checked.Found k rank)) a e = (k ∷ rank ∷ [], e)
+      go (Err why) a e = absurd a
 
   finds : RangeFinds c.answer table shares masks notion size from to c.buffer c.held
   finds = range_finds table shares masks notion size from to c.buffer c.held c.answer c.answers
 
-  found_place : (answer : RangeAnswer) (found : ℕ) → Answered size from to answer found → (found ≡ all_ones → ⊥)
-      → (from ≤ found) × (found < to) × (answer ≡ RangeAnswer.Found size found)
-  found_place RangeAnswer.Clean found a d = absurd (d a)
-  found_place (RangeAnswer.Found k rank) found a d = (
+  found_place : (answer : Result Checked verdict-refusal.Refusal) (found : ℕ) → Answered size from to answer found → (found ≡ all_ones → ⊥)
+      → (from ≤ found) × (found < to) × (answer ≡ Ok (Checked.Found size found))
+  found_place (Ok Checked.Clean) found a d = absurd (d a)
+  found_place (Ok (Checked.Found k rank)) found a d = (
     omega (arith, a.1, a.3),
     omega (arith, a.2, a.3),
-    ap₂ {C = RangeAnswer} RangeAnswer.Found a.0 (sym a.3),
+    ap₂ {C = Result Checked verdict-refusal.Refusal} (λ (k r : ℕ). Ok (Checked.Found k r)) a.0 (sym a.3),
   )
-  found_place (RangeAnswer.Refused why) found a d = absurd a
+  found_place (Err why) found a d = absurd a
 
   wires-few : wires ≤ max_wires
   wires-few = omega (arith, ((accepted_exactly table shares masks).0 asked_there.0.sound).short)
 
-  clean_place : (answer : RangeAnswer) (found : ℕ) → Answered size from to answer found → found ≡ all_ones → answer ≡ RangeAnswer.Clean
-  clean_place RangeAnswer.Clean found a e = refl
-  clean_place (RangeAnswer.Found k rank) found a e =
+  clean_place : (answer : Result Checked verdict-refusal.Refusal) (found : ℕ) → Answered size from to answer found → found ≡ all_ones → answer ≡ Ok Checked.Clean
+  clean_place (Ok Checked.Clean) found a e = refl
+  clean_place (Ok (Checked.Found k rank)) found a e =
       let most : binom wires size < largest = counts_fit wires size wires-few asked_there.0.small in
       let z : ⊥ = omega (arith, a.2, a.3, e, asked_there.2, most) in
       absurd z
-  clean_place (RangeAnswer.Refused why) found a e = absurd a
+  clean_place (Err why) found a e = absurd a
 
   pub first_there : (found_there ≡ all_ones → ⊥) → FirstInRange table shares masks notion size from to (take size c.held) found_there
   first_there d =
@@ -120,7 +123,7 @@ module _ (table : List ℕ) (shares masks notion : ℕ) (reports : List ℕ) (si
   pub clean_there : found_there ≡ all_ones → range_check table shares masks notion size from to c.buffer ≡ nothing c.buffer
   clean_there e =
       let clean = clean_place c.answer w.found w.answered e in
-      sym c.answers ∙ ap (λ (a : RangeAnswer). range_told a c.held) clean ∙ ap nothing (finds.clean clean).0
+      sym c.answers ∙ ap (λ (a : Result Checked verdict-refusal.Refusal). range_told a c.held) clean ∙ ap nothing (finds.clean clean).0
 
   pub filed_there : (order : ℕ) → 1 ≤ size → size ≤ order → Filed (binom wires) notion order (report_at reports i)
   filed_there order low few = subst (Filed (binom wires) notion order) (sym report_there) (record {
@@ -187,7 +190,7 @@ module _ (table : List ℕ) (shares masks notion order : ℕ) (jobs : ℕ → �
   told size job few one = job-told n size (jobs size) few-wires (le_trans few order_small) (divided size).some (divided size).few job one
 
   abbrev Job : ℕ → ℕ → ℕ → Type 0
-  Job size job i = Checked table shares masks notion size (bound size job) (bound size (suc job)) (bytes_at reports i)
+  Job size job i = gathered.Checked table shares masks notion size (bound size job) (bound size (suc job)) (bytes_at reports i)
 
   -- its bounds are the job's
   of_job : (size job i : ℕ) → size ≤ order → job < jobs size → JobReport table shares masks notion size (jobs size) job (bytes_at reports i) → Job size job i
@@ -196,8 +199,8 @@ module _ (table : List ℕ) (shares masks notion order : ℕ) (jobs : ℕ → �
       let q = told size job few one in
       let low : j.from ≡ bound size job = cc in
       let high : j.to ≡ bound size (suc job) = cc in
-      subst (λ (b : ℕ). Checked table shares masks notion size (bound size job) b (bytes_at reports i)) high
-      (subst (λ (a : ℕ). Checked table shares masks notion size a j.to (bytes_at reports i)) low j.checked)
+      subst (λ (b : ℕ). gathered.Checked table shares masks notion size (bound size job) b (bytes_at reports i)) high
+      (subst (λ (a : ℕ). gathered.Checked table shares masks notion size a j.to (bytes_at reports i)) low j.checked)
 
   covers_there : (size job i rank : ℕ) → Job size job i → HasRank (binom n size) (jobs size) job rank → Covers (report_at reports i) size rank
   covers_there size job i rank c h =
@@ -296,7 +299,7 @@ module _ (table : List ℕ) (shares masks notion order : ℕ) (jobs : ℕ → �
         go job has i h c (yes e) stands =
             let clean = clean_there table shares masks notion reports (length u) (bound (length u) job) (bound (length u) (suc job)) i c e in
             let r = range_finds table shares masks notion (length u) (bound (length u) job) (bound (length u) (suc job)) c.buffer c.buffer
-            RangeAnswer.Clean (sym clean) in
+            (Ok Checked.Clean) (sym clean) in
             absurd (true≢false (sym breaks ∙ ap test (sym stands) ∙ (r.clean refl).1 (rank_of n u) has.from has.to))
         go job has i h c (no d) stands = (
           found,

@@ -12,6 +12,7 @@ use mathlib.Core.Path.{◌≡◌, refl, sym, ◌∙◌, ap, subst}
 use mathlib.Core.Logic.{◌↔◌, ◌⊎◌, inl, inr, ⊎_elim}
 use mathlib.Core.Bool.{Bool, true, false, not, true≢false}
 use mathlib.Core.List.{List, [], ◌∷◌}
+use Rattle.std.specs.Prelude.{Result, Ok, Err}
 use Rattle.basics.specs.Told.{Told, values}
 use Rattle.records.specs.Layout.{wire_count}
 use Rattle.counts.specs.Counts.{binom}
@@ -19,10 +20,12 @@ use Rattle.filed_reports.specs.Bytes.{report_at}
 use Rattle.filed_reports.specs.Filed.{covered, reported}
 use Rattle.filed_reports.specs.Places.{NoPlace, FirstPlace}
 use Rattle.filed_reports.proofs.Filed.{covered-exactly, reported-exactly}
-use Rattle.filed_reports.proofs.Places.{place_either, first_place-is, no_place_is}
-use Rattle.pool_answers.specs.declared.PoolAnswer.{PoolAnswer}
+use Rattle.filed_reports.proofs.Places.{place_either}
+use Rattle.pool_answers.specs.declared.Refusal.{Refusal}
+use Rattle.pool_answers.specs.declared.Outcome.{Outcome}
 use Rattle.pool_answers.specs.Answers.{holds_told, broken_told, uncovered_told, pool_told, pool_of}
 use Rattle.pool_answers.specs.Says.{Reported, NoneReported, AllCovered, FirstReported, FirstUncovered, Pooled, PoolSays}
+use Rattle.pool_answers.proofs.Telling.{pooled-broken, pooled-uncovered, pooled-holds}
 use Rattle.pool_answers.proofs.Conditions.{pool_asked, pool_answered}
 
 not-true : (b : Bool) → (not b ≡ true) ↔ (b ≡ true → ⊥)
@@ -128,20 +131,16 @@ module _ (table : List ℕ) (shares masks notion order : ℕ) (reports : List �
 
   told-broken : (size rank : ℕ) → FirstReported reports size rank → told ≡ broken_told size rank
   told-broken size rank f =
-      pool_answered table shares masks notion order reports p
-      ∙ first_place-is (binom n) (reported reports) broken_told order size rank _ (found_first size rank f)
+      pool_answered table shares masks notion order reports p ∙ pooled-broken n order reports size rank (found_first size rank f)
 
   told-uncovered : NoneReported reports → (size rank : ℕ) → FirstUncovered n order reports size rank → told ≡ uncovered_told size rank
   told-uncovered none size rank f =
       pool_answered table shares masks notion order reports p
-      ∙ no_place_is (binom n) (reported reports) broken_told order _ (none_found.0 none)
-      ∙ first_place-is (binom n) uncovered uncovered_told order size rank _ (place_uncovered size rank f)
+      ∙ pooled-uncovered n order reports (none_found.0 none) size rank (place_uncovered size rank f)
 
   told-holds : NoneReported reports → AllCovered n order reports → told ≡ holds_told
   told-holds none all =
-      pool_answered table shares masks notion order reports p
-      ∙ no_place_is (binom n) (reported reports) broken_told order _ (none_found.0 none)
-      ∙ no_place_is (binom n) uncovered uncovered_told order _ (all-covered.0 all)
+      pool_answered table shares masks notion order reports p ∙ pooled-holds n order reports (none_found.0 none) (all-covered.0 all)
 
   pub three : Found ⊎ (Missing ⊎ Whole)
   three = go (place_either (binom n) (reported reports) order) (place_either (binom n) uncovered order)
@@ -199,28 +198,28 @@ module _ (table : List ℕ) (shares masks notion order : ℕ) (reports : List �
   accepted : (l : List ℕ) → values l ≡ pool_of table shares masks notion order reports → Pooled table shares masks notion order reports
   accepted l e = (pool_asked table shares masks notion order reports).0 (l, sym e)
 
-  pub pool_says : (answer : PoolAnswer) → pool_told answer ≡ pool_of table shares masks notion order reports
+  pub pool_says : (answer : Result Outcome Refusal) → pool_told answer ≡ pool_of table shares masks notion order reports
       → PoolSays answer table shares masks notion order reports
-  pool_says PoolAnswer.Holds e = record {
+  pool_says (Ok Outcome.Holds) e = record {
     holds = λ same. (holds-exactly table shares masks notion order reports (accepted (1 ∷ []) e)).0 (sym e);
     broken = λ size rank same. let z : ◌≡◌ {A = ℕ} 0 1 = cc in absurd (omega (arith, z));
     uncovered = λ size rank same. let z : ◌≡◌ {A = ℕ} 0 1 = cc in absurd (omega (arith, z));
   }
-  pool_says (PoolAnswer.Broken size rank) e = record {
+  pool_says (Ok (Outcome.Broken size rank)) e = record {
     holds = λ same. let z : ◌≡◌ {A = ℕ} 0 1 = cc in absurd (omega (arith, z));
     broken = λ k r same. let i : size ≡ k = cc in let j : rank ≡ r = cc in
         (broken-exactly table shares masks notion order reports (accepted (2 ∷ size ∷ rank ∷ []) e) k r).0
         (sym e ∙ ap (λ (x : ℕ). broken_told x rank) i ∙ ap (broken_told k) j);
     uncovered = λ k r same. let z : ◌≡◌ {A = ℕ} 0 1 = cc in absurd (omega (arith, z));
   }
-  pool_says (PoolAnswer.Uncovered size rank) e = record {
+  pool_says (Ok (Outcome.Uncovered size rank)) e = record {
     holds = λ same. let z : ◌≡◌ {A = ℕ} 0 1 = cc in absurd (omega (arith, z));
     broken = λ k r same. let z : ◌≡◌ {A = ℕ} 0 1 = cc in absurd (omega (arith, z));
     uncovered = λ k r same. let i : size ≡ k = cc in let j : rank ≡ r = cc in
         (uncovered-exactly table shares masks notion order reports (accepted (3 ∷ size ∷ rank ∷ []) e) k r).0
         (sym e ∙ ap (λ (x : ℕ). uncovered_told x rank) i ∙ ap (uncovered_told k) j);
   }
-  pool_says (PoolAnswer.Refused why) e = record {
+  pool_says (Err why) e = record {
     holds = λ same. let z : ◌≡◌ {A = ℕ} 0 1 = cc in absurd (omega (arith, z));
     broken = λ k r same. let z : ◌≡◌ {A = ℕ} 0 1 = cc in absurd (omega (arith, z));
     uncovered = λ k r same. let z : ◌≡◌ {A = ℕ} 0 1 = cc in absurd (omega (arith, z));

@@ -12,6 +12,7 @@ use mathlib.Core.Bool.{true}
 use mathlib.Core.List.{List, [], ◌∷◌}
 use lib.ListN.{length}
 use Rattle.limits.specs.Limits.{max_wires, max_size}
+use Rattle.std.specs.Prelude.{Result, Ok, Err}
 use Rattle.basics.specs.Folds.{keep}
 use Rattle.basics.specs.Told.{Lent, refusal}
 use Rattle.basics.specs.Conditions.{First}
@@ -30,7 +31,7 @@ use Rattle.filed_reports.specs.declared.Report.{Report}
 use Rattle.filed_reports.specs.Bytes.{report_bytes, all_ones, bytes_of_report}
 use Rattle.filed_reports.specs.Filed.{Filed}
 use Rattle.verdict_answers.specs.declared.Refusal.{Refusal}
-use Rattle.verdict_answers.specs.declared.RangeAnswer.{RangeAnswer}
+use Rattle.verdict_answers.specs.declared.Checked.{Checked}
 use Rattle.verdict_answers.specs.Answers as verdict-answers
 use Rattle.verdict_answers.specs.Answers.{notion_of, first_ranked, range_told, range_check}
 use Rattle.verdict_answers.specs.Conditions.{range_conditions}
@@ -41,42 +42,43 @@ use Rattle.pool_answers.specs.Answers.{report_of, written, filed_report}
 use Rattle.pool_answers.specs.Conditions.{Answered}
 use Rattle.pool_answers.specs.Says.{Pooled}
 use Rattle.pool_answers.specs.Agrees.{AllTrue}
-use Rattle.pool_answers.specs.Gathered.{bytes_at, Checked, Campaign, JobReport}
+use Rattle.pool_answers.specs.Gathered as gathered
+use Rattle.pool_answers.specs.Gathered.{bytes_at, Campaign, JobReport}
 use Rattle.pool_answers.proofs.Filing.{Fileable, Writes, Written, NotWritten, file_either, writes_only}
 use Rattle.pool_answers.proofs.Gathering.{campaign_pooled, campaign_true}
 
 module _ (table : List ℕ) (shares masks notion size from to : ℕ) (buffer : List ℕ) where
   -- what it answered, where it refused nothing
-  abbrev Told : RangeAnswer → List ℕ → Type 0
+  abbrev Told : Result Checked Refusal → List ℕ → Type 0
   Told answer held = range_told answer held ≡ range_check table shares masks notion size from to buffer
 
   abbrev Accepts : Type 0
   Accepts = Asked table shares masks notion size buffer × (from ≤ to) × (to ≤ binom (wire_count table) size)
 
   -- the found rank of its report, which the bounds have between them and whose set breaks
-  abbrev Finding : RangeAnswer → Type 0
+  abbrev Finding : Result Checked Refusal → Type 0
   Finding answer = (found : ℕ) × Answered size from to answer found
       × ((found ≡ all_ones → ⊥) → (from ≤ found) × (found < to) × (is_breaking (notion_of notion) table shares masks (set_at (wire_count table) size found) ≡ true))
 
-  accepts : (answer : RangeAnswer) (held : List ℕ) → Told answer held → ((why : Refusal) → answer ≡ RangeAnswer.Refused why → ⊥) → Accepts
-  accepts RangeAnswer.Clean held e kept = (range_asked table shares masks notion size from to buffer).0 ([], ap (λ (a : Lent). a.told) (sym e))
-  accepts (RangeAnswer.Found k rank) held e kept =
+  accepts : (answer : Result Checked Refusal) (held : List ℕ) → Told answer held → ((why : Refusal) → answer ≡ Err why → ⊥) → Accepts
+  accepts (Ok Checked.Clean) held e kept = (range_asked table shares masks notion size from to buffer).0 ([], ap (λ (a : Lent). a.told) (sym e))
+  accepts (Ok (Checked.Found k rank)) held e kept =
       (range_asked table shares masks notion size from to buffer).0 (k ∷ rank ∷ [], ap (λ (a : Lent). a.told) (sym e))
-  accepts (RangeAnswer.Refused why) held e kept = absurd (kept why refl)
+  accepts (Err why) held e kept = absurd (kept why refl)
 
-  finding : (answer : RangeAnswer) (held : List ℕ) → Told answer held → ((why : Refusal) → answer ≡ RangeAnswer.Refused why → ⊥) → Finding answer
-  finding RangeAnswer.Clean held e kept = (all_ones, refl, λ d. absurd (d refl))
-  finding (RangeAnswer.Found k rank) held e kept =
-      let f = (range_finds table shares masks notion size from to buffer held (RangeAnswer.Found k rank) e).found k rank refl in
+  finding : (answer : Result Checked Refusal) (held : List ℕ) → Told answer held → ((why : Refusal) → answer ≡ Err why → ⊥) → Finding answer
+  finding (Ok Checked.Clean) held e kept = (all_ones, refl, λ d. absurd (d refl))
+  finding (Ok (Checked.Found k rank)) held e kept =
+      let f = (range_finds table shares masks notion size from to buffer held (Ok (Checked.Found k rank)) e).found k rank refl in
       let first = f.2 in (
         rank,
         (f.0, first.low, first.high, refl),
         λ d. (first.low, first.high, ap (is_breaking (notion_of notion) table shares masks) first.stands ∙ first.breaking),
       )
-  finding (RangeAnswer.Refused why) held e kept = absurd (kept why refl)
+  finding (Err why) held e kept = absurd (kept why refl)
 
-  module _ (order : ℕ) (low : 1 ≤ size) (few : size ≤ order) (fits : order < shares) (answer : RangeAnswer) (held : List ℕ) (e : Told answer held)
-      (kept : (why : Refusal) → answer ≡ RangeAnswer.Refused why → ⊥) where
+  module _ (order : ℕ) (low : 1 ≤ size) (few : size ≤ order) (fits : order < shares) (answer : Result Checked Refusal) (held : List ℕ) (e : Told answer held)
+      (kept : (why : Refusal) → answer ≡ Err why → ⊥) where
     a : Accepts
     a = accepts answer held e kept
 
@@ -120,7 +122,7 @@ module _ (table : List ℕ) (shares masks notion size from to : ℕ) (buffer : L
       campaign : Campaign table shares masks notion order (bytes_of_report r)
       campaign = record { whole = refl; each = λ i h. (size, from, to, low, few, there i h) }
         where
-          there : (i : ℕ) → i < 1 → Checked table shares masks notion size from to (bytes_at (bytes_of_report r) i)
+          there : (i : ℕ) → i < 1 → gathered.Checked table shares masks notion size from to (bytes_at (bytes_of_report r) i)
           there zero h = record { buffer = buffer; answer = answer; held = held; answers = e; lent = lent; files = files lent long }
           there (suc i) h = absurd (not-suc-le-zero (le_of_suc-le-suc h))
 
@@ -178,9 +180,9 @@ module _ (table : List ℕ) (shares masks notion order : ℕ) (jobs : ℕ → �
       record { sound = ordered.sound; known = ordered.known; small = omega (arith, few, most, ordered.high); room = le_trans few ordered.room }
 
   -- what its range check answers
-  answered-job : (answer : RangeAnswer) × (held : List ℕ)
+  answered-job : (answer : Result Checked Refusal) × (held : List ℕ)
       × (range_told answer held ≡ range_check table shares masks notion size from-job to-job buffer)
-      × ((why : Refusal) → answer ≡ RangeAnswer.Refused why → ⊥)
+      × ((why : Refusal) → answer ≡ Err why → ⊥)
   answered-job = go (keep (is_breaking (notion_of notion) table shares masks) (stretch n size from-job to-job)) refl
     where
       shows : (l : List (List ℕ)) → keep (is_breaking (notion_of notion) table shares masks) (stretch n size from-job to-job) ≡ l
@@ -191,11 +193,11 @@ module _ (table : List ℕ) (shares masks notion order : ℕ) (jobs : ℕ → �
           (start-rises (binom n size) (jobs size) job (divided size).some) (start-within (binom n size) (jobs size) (suc job) (divided size).some one))
 
       go : (l : List (List ℕ)) → keep (is_breaking (notion_of notion) table shares masks) (stretch n size from-job to-job) ≡ l
-          → (answer : RangeAnswer) × (held : List ℕ) × (range_told answer held ≡ range_check table shares masks notion size from-job to-job buffer)
-          × ((why : Refusal) → answer ≡ RangeAnswer.Refused why → ⊥)
-      go [] e = (RangeAnswer.Clean, buffer, shows [] e, λ why same. let z : ◌≡◌ {A = ℕ} 0 1 = cc in absurd (omega (arith, z)))
+          → (answer : Result Checked Refusal) × (held : List ℕ) × (range_told answer held ≡ range_check table shares masks notion size from-job to-job buffer)
+          × ((why : Refusal) → answer ≡ Err why → ⊥)
+      go [] e = ((Ok Checked.Clean), buffer, shows [] e, λ why same. let z : ◌≡◌ {A = ℕ} 0 1 = cc in absurd (omega (arith, z)))
       go (s ∷ later) e = (
-        RangeAnswer.Found (length s) (rank_of n s),
+        Ok (Checked.Found (length s) (rank_of n s)),
         verdict-answers.written s buffer,
         shows (s ∷ later) e,
         λ why same. let z : ◌≡◌ {A = ℕ} 0 1 = cc in absurd (omega (arith, z)),

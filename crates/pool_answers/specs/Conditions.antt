@@ -4,7 +4,7 @@
 --     Answered                  what a range check answered of a size and bounds: clean, or a rank of that size between them
 --     CouldStand                a report of it that passes the tests of 25, of some table and at some order
 --     filing_conditions          the writing's
-use Rattle.std.specs.Prelude.{ℕ, ◌%◌, ◌≤◌, ◌<◌, ◌≡◌, ◌⊎◌, false, List, [], ◌∷◌, ◌++◌, length}
+use Rattle.std.specs.Prelude.{ℕ, ◌%◌, ◌≤◌, ◌<◌, ◌≡◌, ◌⊎◌, false, List, [], ◌∷◌, ◌++◌, length, Result, Ok, Err}
 use Rattle.limits.specs.Limits.{max_wires, max_size}
 use Rattle.basics.specs.Conditions.{Condition, ◌when◌, Some}
 use Rattle.records.specs.Layout.{wire_count}
@@ -14,7 +14,8 @@ use Rattle.breaking.specs.Breaking.{is_breaking}
 use Rattle.table.specs.Conditions.{table_conditions}
 use Rattle.filed_reports.specs.Bytes.{report_bytes, all_ones, report_at, report_count}
 use Rattle.filed_reports.specs.Filed.{Filed, Misfiled}
-use Rattle.verdict_answers.specs.declared.RangeAnswer.{RangeAnswer}
+use Rattle.verdict_answers.specs.declared.Checked.{Checked}
+use Rattle.verdict_answers.specs.declared.Refusal as verdict-refusal
 use Rattle.verdict_answers.specs.Answers.{notion_of}
 use Rattle.verdict_answers.specs.Conditions.{WrongNotion}
 use Rattle.pool_answers.specs.Answers.{report_of}
@@ -43,12 +44,12 @@ pool_conditions table shares masks notion order reports =
     ∷ []
 
 -- with the found rank of the report, all ones where the ranks are clean
-abbrev pub Answered : ℕ → ℕ → ℕ → RangeAnswer → ℕ → Type 0
-Answered size from to RangeAnswer.Clean found = found ≡ all_ones
-Answered size from to (RangeAnswer.Found k rank) found = (k ≡ size) × (from ≤ rank) × (rank < to) × (found ≡ rank)
-Answered size from to (RangeAnswer.Refused why) found = ⊥
+abbrev pub Answered : ℕ → ℕ → ℕ → Result Checked verdict-refusal.Refusal → ℕ → Type 0
+Answered size from to (Ok Checked.Clean) found = found ≡ all_ones
+Answered size from to (Ok (Checked.Found k rank)) found = (k ≡ size) × (from ≤ rank) × (rank < to) × (found ≡ rank)
+Answered size from to (Err why) found = ⊥
 
-pub record CouldStand (notion size from to : ℕ) (answer : RangeAnswer) : Type 0 where
+pub record CouldStand (notion size from to : ℕ) (answer : Result Checked verdict-refusal.Refusal) : Type 0 where
   pub found : ℕ
   pub answered : Answered size from to answer found
   pub wires : ℕ
@@ -59,7 +60,7 @@ pub record CouldStand (notion size from to : ℕ) (answer : RangeAnswer) : Type 
   pub filed : Filed (binom wires) notion order (report_of notion size from to found)
 
 -- "a 25 where the buffer is not 32 bytes or the numbers could stand in no report"
-abbrev pub filing_conditions : ℕ → ℕ → ℕ → ℕ → RangeAnswer → List ℕ → List Condition
+abbrev pub filing_conditions : ℕ → ℕ → ℕ → ℕ → Result Checked verdict-refusal.Refusal → List ℕ → List Condition
 filing_conditions notion size from to answer buffer =
     25 when ((length buffer ≡ report_bytes → ⊥) ⊎ (CouldStand notion size from to answer → ⊥))
     ∷ []

@@ -6,14 +6,15 @@
 --     Gathered      a list of the reports of all jobs of all sizes from 1 to the order but those left out, in any order, each once or more
 --     All, But      none is left out; one is
 --     PoolIsVerdict     the pool tells what the verdict does: holds, or the set that it shows, by its size and rank
-use Rattle.std.specs.Prelude.{ℕ, ◌*◌, ◌%◌, ◌≤◌, ◌<◌, ◌≡◌, ◌⊎◌, List, [], ◌∷◌, length, take, drop}
+use Rattle.std.specs.Prelude.{ℕ, ◌*◌, ◌%◌, ◌≤◌, ◌<◌, ◌≡◌, ◌⊎◌, List, [], ◌∷◌, length, take, drop, Result}
 use Rattle.basics.specs.Told.{values}
 use Rattle.basics.specs.Conditions.{Some}
 use Rattle.records.specs.Layout.{wire_count}
 use Rattle.revolving.specs.Order.{rank_of}
 use Rattle.division.specs.Answers.{job_ranks}
 use Rattle.filed_reports.specs.Bytes.{report_bytes, report_count}
-use Rattle.verdict_answers.specs.declared.RangeAnswer.{RangeAnswer}
+use Rattle.verdict_answers.specs.declared.Checked as range-answer
+use Rattle.verdict_answers.specs.declared.Refusal as verdict-refusal
 use Rattle.verdict_answers.specs.Answers.{range_told, range_check, verdict_of}
 use Rattle.verdict_answers.specs.Jobs.{nothing, broken}
 use Rattle.pool_answers.specs.Answers.{holds_told, broken_told, pool_of, filed_report}
@@ -23,7 +24,7 @@ bytes_at reports i = take report_bytes (drop (report_bytes * i) reports)
 
 pub record Checked (table : List ℕ) (shares masks notion size from to : ℕ) (bytes : List ℕ) : Type 0 where
   pub buffer : List ℕ
-  pub answer : RangeAnswer
+  pub answer : Result range-answer.Checked verdict-refusal.Refusal
   pub held : List ℕ
   pub answers : range_told answer held ≡ range_check table shares masks notion size from to buffer
   pub lent : List ℕ

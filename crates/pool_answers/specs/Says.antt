@@ -7,7 +7,7 @@
 --     PoolSays                     what each answer says
 --     FilingMeans                  a report is filed exactly where it could stand in some list and the buffer has its length; it is then read from the buffer
 --                                  again, and where it is refused the buffer is as it was
-use Rattle.std.specs.Prelude.{ℕ, ◌%◌, ◌≤◌, ◌<◌, ◌≡◌, ◌↔◌, ◌⊎◌, true, List, [], length}
+use Rattle.std.specs.Prelude.{ℕ, ◌%◌, ◌≤◌, ◌<◌, ◌≡◌, ◌↔◌, ◌⊎◌, true, List, [], length, Result, Ok, Err}
 use Rattle.basics.specs.Told.{values}
 use Rattle.basics.specs.Conditions.{Some}
 use Rattle.records.specs.Layout.{wire_count}
@@ -19,10 +19,10 @@ use Rattle.filed_reports.specs.Bytes.{report_bytes, all_ones, report_at, report_
 use Rattle.filed_reports.specs.Filed.{Filed, Covers, Finds}
 use Rattle.verdict_answers.specs.Answers.{notion_of}
 use Rattle.verdict_answers.specs.Conditions.{WrongNotion}
-use Rattle.verdict_answers.specs.declared.RangeAnswer.{RangeAnswer}
+use Rattle.verdict_answers.specs.declared.Checked.{Checked}
+use Rattle.verdict_answers.specs.declared.Refusal as verdict-refusal
 use Rattle.pool_answers.specs.declared.Refusal.{Refusal}
-use Rattle.pool_answers.specs.declared.PoolAnswer.{PoolAnswer}
-use Rattle.pool_answers.specs.declared.FilingAnswer.{FilingAnswer}
+use Rattle.pool_answers.specs.declared.Outcome.{Outcome}
 use Rattle.pool_answers.specs.Answers.{report_of}
 use Rattle.pool_answers.specs.Conditions.{Answered, CouldStand}
 
@@ -60,15 +60,15 @@ pub record Pooled (table : List ℕ) (shares masks notion order : ℕ) (reports 
   pub breaking : (i : ℕ) → i < report_count reports → ((report_at reports i).found ≡ all_ones → ⊥)
       → is_breaking (notion_of notion) table shares masks (set_at (wire_count table) (report_at reports i).size (report_at reports i).found) ≡ true
 
-pub record PoolSays (answer : PoolAnswer) (table : List ℕ) (shares masks notion order : ℕ) (reports : List ℕ) : Type 0 where
-  pub holds : answer ≡ PoolAnswer.Holds → NoneReported reports × AllCovered (wire_count table) order reports
-  pub broken : (size rank : ℕ) → answer ≡ PoolAnswer.Broken size rank → FirstReported reports size rank
-  pub uncovered : (size rank : ℕ) → answer ≡ PoolAnswer.Uncovered size rank
+pub record PoolSays (answer : Result Outcome Refusal) (table : List ℕ) (shares masks notion order : ℕ) (reports : List ℕ) : Type 0 where
+  pub holds : answer ≡ Ok Outcome.Holds → NoneReported reports × AllCovered (wire_count table) order reports
+  pub broken : (size rank : ℕ) → answer ≡ Ok (Outcome.Broken size rank) → FirstReported reports size rank
+  pub uncovered : (size rank : ℕ) → answer ≡ Ok (Outcome.Uncovered size rank)
       → NoneReported reports × FirstUncovered (wire_count table) order reports size rank
 
 -- what is filed is read again, with the found rank of the range check's answer
-pub record FilingMeans (told : FilingAnswer) (notion size from to : ℕ) (answer : RangeAnswer) (buffer held : List ℕ) : Type 0 where
-  pub files-exactly : (told ≡ FilingAnswer.Filed) ↔ ((length buffer ≡ report_bytes) × CouldStand notion size from to answer)
-  pub written : told ≡ FilingAnswer.Filed
+pub record FilingMeans (told : Result (Unit {0}) Refusal) (notion size from to : ℕ) (answer : Result Checked verdict-refusal.Refusal) (buffer held : List ℕ) : Type 0 where
+  pub files-exactly : (told ≡ Ok tt) ↔ ((length buffer ≡ report_bytes) × CouldStand notion size from to answer)
+  pub written : told ≡ Ok tt
       → (length held ≡ report_bytes) × ((found : ℕ) × Answered size from to answer found × (report_at held 0 ≡ report_of notion size from to found))
-  pub refused : (why : Refusal) → told ≡ FilingAnswer.Refused why → held ≡ buffer
+  pub refused : (why : Refusal) → told ≡ Err why → held ≡ buffer

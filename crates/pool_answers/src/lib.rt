@@ -5,6 +5,7 @@
 
 ghost use Rattle.std.specs.Prelude.{◌≡◌};
 ghost use Rattle.pool_answers.specs.Answers.{refusal_number};
+ghost use Rattle.pool_answers.specs.declared.Refusal.TheVariants.{Tests};
 
 // Why an entry turns its arguments down. `Tests` are those of a verdict.
 #[derive(Clone, Copy)]
@@ -27,18 +28,18 @@ impl Refusal {
     }
 }
 
-// Broken gives the first size and rank found, uncovered the first that no report covers.
+impl From<verdict_answers::Refusal> for Refusal {
+    ghost from_gives = { λ why e. e ≡ Tests why };
+
+    fn from(why: verdict_answers::Refusal) -> Refusal {
+        Refusal::Tests(why)
+    }
+}
+
+// What the reports come to: broken gives the first size and rank found, uncovered the first that no report covers.
 #[derive(Clone, Copy)]
-pub enum PoolAnswer {
+pub enum Outcome {
     Holds,
     Broken { size: usize, rank: u64 },
     Uncovered { size: usize, rank: u64 },
-    Refused(Refusal),
-}
-
-// Filed: the report is written.
-#[derive(Clone, Copy)]
-pub enum FilingAnswer {
-    Filed,
-    Refused(Refusal),
 }

@@ -10,6 +10,7 @@ use mathlib.Core.List.{List, [], ◌∷◌}
 use borrow.Author.Tests.{le-ltb}
 use lib.Dec.{eqb}
 use lib.ListN.{length, get_or}
+use Rattle.std.specs.Prelude.{Ok, Err}
 use Rattle.basics.specs.Folds.{keep}
 use Rattle.basics.specs.Told.{Told, Lent, values, refusal, turned_down}
 use Rattle.basics.specs.Conditions.{First}
@@ -19,7 +20,7 @@ use Rattle.revolving.specs.Order.{rank_of}
 use Rattle.breaking.specs.Breaking.{is_breaking}
 use Rattle.search.specs.Search.{stretch}
 use Rattle.verdict_answers.specs.declared.Refusal as verdict-refusal
-use Rattle.verdict_answers.specs.declared.RangeAnswer.{RangeAnswer}
+use Rattle.verdict_answers.specs.declared.Checked.{Checked}
 use Rattle.verdict_answers.specs.Answers as verdict-answers
 use Rattle.verdict_answers.specs.Answers.{notion_of, first_ranked, range_told, range_check}
 use Rattle.verdict_answers.specs.Conditions.{range_conditions}
@@ -38,7 +39,7 @@ module _ (table : List ℕ) (shares masks notion size from to : ℕ) (buffer : L
   checked = range_check table shares masks notion size from to buffer
 
   abbrev Read : ℕ → ℕ → List ℕ → Type 0
-  Read clean rank held = (clean ≤ 1) × (range_told (checked_as size clean rank) held ≡ range_check table shares masks notion size from to buffer)
+  Read clean rank held = (clean ≤ 1) × (range_told (Ok (checked_as size clean rank)) held ≡ range_check table shares masks notion size from to buffer)
 
   not_0 : First (range_conditions table shares masks notion size from to buffer) 0 → ⊥
   not_0 (inl h) = omega (arith, h.1)
@@ -61,7 +62,7 @@ module _ (table : List ℕ) (shares masks notion size from to : ℕ) (buffer : L
         let one : clean ≡ 1 = ap (λ (c : Called). get_or c.numbers 0 0) g in
         let same : held ≡ buffer = ap (λ (c : Called). c.buffer) g in (
           omega (arith, one),
-          ap (λ (k : ℕ). range_told (checked_as size k rank) held) one ∙ ap (λ (l : List ℕ). range_told RangeAnswer.Clean l) same ∙ sym f,
+          ap (λ (k : ℕ). range_told (Ok (checked_as size k rank)) held) one ∙ ap (λ (l : List ℕ). range_told (Ok Checked.Clean) l) same ∙ sym f,
         )
     by_sets (s ∷ later) f =
         let g : got 0 (clean ∷ found ∷ rank ∷ []) held ≡ lent_judged (first_ranked (wire_count table) (s ∷ later) buffer) before =
@@ -69,17 +70,17 @@ module _ (table : List ℕ) (shares masks notion size from to : ℕ) (buffer : L
         let zero : clean ≡ 0 = ap (λ (c : Called). get_or c.numbers 0 0) g in
         let place : rank ≡ rank_of (wire_count table) s = ap (λ (c : Called). get_or c.numbers 2 0) g in
         let shown : held ≡ verdict-answers.written s buffer = ap (λ (c : Called). c.buffer) g in
-        let found : range_told (RangeAnswer.Found (length s) (rank_of (wire_count table) s)) (verdict-answers.written s buffer) ≡ checked = sym f in
+        let found : range_told (Ok (Checked.Found (length s) (rank_of (wire_count table) s))) (verdict-answers.written s buffer) ≡ checked = sym f in
         let long : length s ≡ size =
-        ((range_finds table shares masks notion size from to buffer (verdict-answers.written s buffer) (RangeAnswer.Found (length s) (rank_of (wire_count table) s)) found
+        ((range_finds table shares masks notion size from to buffer (verdict-answers.written s buffer) (Ok (Checked.Found (length s) (rank_of (wire_count table) s))) found
         ).found (length s) (rank_of (wire_count table) s) refl).0 in (
           omega (arith, zero),
-          ap (λ (k : ℕ). range_told (checked_as size k rank) held) zero
-              ∙ ap₂ (λ (r : ℕ) (l : List ℕ). range_told (RangeAnswer.Found size r) l) place shown
-              ∙ ap (λ (k : ℕ). range_told (RangeAnswer.Found k (rank_of (wire_count table) s)) (verdict-answers.written s buffer)) (sym long) ∙ found,
+          ap (λ (k : ℕ). range_told (Ok (checked_as size k rank)) held) zero
+              ∙ ap₂ (λ (r : ℕ) (l : List ℕ). range_told (Ok (Checked.Found size r)) l) place shown
+              ∙ ap (λ (k : ℕ). range_told (Ok (Checked.Found k (rank_of (wire_count table) s))) (verdict-answers.written s buffer)) (sym long) ∙ found,
         )
 
-    pub check_filed : (clean ≤ 1) × (range_told (checked_as size clean rank) held ≡ range_check table shares masks notion size from to buffer)
+    pub check_filed : (clean ≤ 1) × (range_told (Ok (checked_as size clean rank)) held ≡ range_check table shares masks notion size from to buffer)
     check_filed = go checked.told refl
       where
         go : (told : Told) → checked.told ≡ told → Read clean rank held
@@ -99,13 +100,13 @@ module _ (table : List ℕ) (shares masks notion size from to : ℕ) (buffer : L
         × AllTrue table shares masks notion (bytes_of_report (report_of notion size from to i))
     check_pooled order low few high lent long =
         let c = check_filed in
-        let t = range_taken table shares masks notion size from to buffer order low few high (checked_as size clean rank) held c.1 (answers (eqb clean 1)) lent long in (
+        let t = range_taken table shares masks notion size from to buffer order low few high (Ok (checked_as size clean rank)) held c.1 (answers (eqb clean 1)) lent long in (
           t.0,
-          ap (λ (b : Bool). cond b (turned_down 25 lent) (filed_report notion size from to (checked_as size clean rank) lent)) (le-ltb 1 clean c.0) ∙ t.2,
+          ap (λ (b : Bool). cond b (turned_down 25 lent) (filed_report notion size from to (Ok (checked_as size clean rank)) lent)) (le-ltb 1 clean c.0) ∙ t.2,
           t.3,
           t.4,
         )
       where
-        answers : (b : Bool) (why : verdict-refusal.Refusal) → cond b RangeAnswer.Clean (RangeAnswer.Found size rank) ≡ RangeAnswer.Refused why → ⊥
+        answers : (b : Bool) (why : verdict-refusal.Refusal) → (Ok (cond b Checked.Clean (Checked.Found size rank))) ≡ Err why → ⊥
         answers true why same = let z : ◌≡◌ {A = ℕ} 0 1 = cc in omega (arith, z)
         answers false why same = let z : ◌≡◌ {A = ℕ} 0 1 = cc in omega (arith, z)

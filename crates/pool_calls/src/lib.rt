@@ -7,8 +7,8 @@ ghost use Rattle.call_answers.specs.Calls.{got, answered, lent_answered};
 ghost use Rattle.call_answers.specs.Meaning.{Kept};
 ghost use Rattle.pool_calls.specs.Calls.{checked_as, filed_call, PoolTells, FilingSays};
 
-use pool::{FilingAnswer, PoolAnswer, Refusal};
-use verdict_answers::RangeAnswer;
+use pool::{Outcome, Refusal};
+use verdict_answers::Checked;
 
 // What the reports of many machines come to.
 pub fn pool(
@@ -26,14 +26,17 @@ pub fn pool(
     ensures kept { Kept result (answer.new ∷ size.new ∷ rank.new ∷ []) (answer.old ∷ size.old ∷ rank.old ∷ []) [] [] }
     ensures pool_tells { PoolTells result answer.new size.new rank.new table.now shares masks notion order reports.now }
 {
-    let told = pool::pool(table, shares, masks, notion, order, reports);
-    match told {
-        PoolAnswer::Refused(why) => why.number(),
-        PoolAnswer::Holds => {
+    let outcome = match pool::pool(table, shares, masks, notion, order, reports) {
+        Ok(outcome) => outcome,
+        Err(why) => return why.number(),
+    };
+    // kept: (C) the numbers 1, 2 and 3 are what C reads (`PoolTells`)
+    match outcome {
+        Outcome::Holds => {
             *answer = 1;
             0
         }
-        PoolAnswer::Broken {
+        Outcome::Broken {
             size: wires,
             rank: place,
         } => {
@@ -42,7 +45,7 @@ pub fn pool(
             *rank = place;
             0
         }
-        PoolAnswer::Uncovered {
+        Outcome::Uncovered {
             size: wires,
             rank: place,
         } => {
@@ -55,13 +58,14 @@ pub fn pool(
 }
 
 // What a range check told by `clean` and `rank`.
-fn checked(size: usize, clean: u64, rank: u64) -> RangeAnswer
+// kept: (C) the flag with a rank beside it is what C hands over (`checked_as`)
+fn checked(size: usize, clean: u64, rank: u64) -> Checked
     ensures { result ≡ checked_as size clean rank }
 {
     if clean == 1 {
-        return RangeAnswer::Clean;
+        return Checked::Clean;
     }
-    RangeAnswer::Found { size, rank }
+    Checked::Found { size, rank }
 }
 
 // Writes the report of a range check.
@@ -81,9 +85,15 @@ pub fn filed_report(
     if 1 < clean {
         return Refusal::Misfiled.number();
     }
-    let told = pool::filed_report(notion, size, from, to, checked(size, clean, rank), report);
-    match told {
-        FilingAnswer::Refused(why) => why.number(),
-        FilingAnswer::Filed => 0,
+    match pool::filed_report(
+        notion,
+        size,
+        from,
+        to,
+        Ok(checked(size, clean, rank)),
+        report,
+    ) {
+        Ok(()) => 0,
+        Err(why) => why.number(),
     }
 }

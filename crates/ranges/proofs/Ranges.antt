@@ -1,6 +1,6 @@
 -- The range check's answers, path by path. Where a test refuses, nothing was written; else the search's result decides.
 --     range_answer                          the answer after the first tests
---     range_before, size_large, range_room, ranks_low, ranks_high, range_clean, range_found     the answers
+--     size_large, range_room, ranks_low, ranks_high, range_clean, range_found     the answers
 --     PassedRange, range_bytes              all tests passed
 use Prim.Native.Nat.{ℕ, ◌-◌, ◌≤◌, ◌<◌}
 use native.Mathlib.Omega.{arith}
@@ -10,9 +10,10 @@ use mathlib.Core.List.{List, [], ◌∷◌}
 use borrow.Author.Tests.{le-leb, lt-leb, le-ltb, lt-ltb}
 use lib.Dec.{ltb, leb}
 use lib.ListN.{length, take}
+use Rattle.std.specs.Prelude.{Ok, Some, None}
 use Rattle.limits.specs.Limits.{max_shares, max_masks, max_table_bytes, max_size}
 use Rattle.basics.specs.Folds.{keep}
-use Rattle.basics.specs.Told.{Lent, values, refusal, turned_down}
+use Rattle.basics.specs.Told.{Lent, values, turned_down}
 use Rattle.wires.specs.declared.Notion.{Notion}
 use Rattle.records.specs.Layout.{wire_count}
 use Rattle.table.proofs.Conditions.{accepted_exactly}
@@ -20,15 +21,14 @@ use Rattle.counts.specs.Counts.{binom}
 use Rattle.revolving.specs.Order.{set_at}
 use Rattle.revolving.proofs.Rising.{is_set-parts}
 use Rattle.revolving.proofs.Revolving.{set_at-is-set, rank_of-set}
-use Rattle.verdict_answers.specs.declared.RangeAnswer.{RangeAnswer}
+use Rattle.verdict_answers.specs.declared.Checked.{Checked}
 use Rattle.breaking.specs.Breaking.{is_breaking}
 use Rattle.search.specs.Search.{stretch, FirstRank}
 use Rattle.verdict_answers.specs.Answers.{range_told, notion_of, written, first_ranked, range_check}
 use Rattle.verdict_answers.proofs.Conditions.{range_answered}
 use Rattle.search.proofs.Ranges.{rank-first}
-use Rattle.opening.specs.declared.Opened.{Opened}
 use Rattle.opening.specs.Opening.{opened_told, opens}
-use Rattle.opening.proofs.Admitting.{opened_for, short, opened-answer, opened-refusal}
+use Rattle.opening.proofs.Admitting.{opened_for, short, opened-answer}
 use Rattle.opening.proofs.Deciding.{stretch_decided}
 
 module _ (table : List ℕ) (shares masks notion size from to : ℕ) (buffer : List ℕ) where
@@ -46,10 +46,7 @@ module _ (table : List ℕ) (shares masks notion size from to : ℕ) (buffer : L
   abbrev asked : Lent
   asked = range_check table shares masks notion size from to buffer
 
-  pub range_before : (number : ℕ) → refusal number ≡ opens table shares masks notion → turned_down number buffer ≡ asked
-  range_before number e = sym (opened-refusal table shares masks notion (λ number. turned_down number buffer) range_answer number e)
-
-  module _ (kind : Notion) (told : opened_told (Opened.For kind) ≡ opens table shares masks notion) where
+  module _ (kind : Notion) (told : opened_told (Ok kind) ≡ opens table shares masks notion) where
     own_range : range_answer ≡ asked
     own_range =
         let o = opened_for table shares masks notion kind told in
@@ -76,7 +73,7 @@ module _ (table : List ℕ) (shares masks notion size from to : ℕ) (buffer : L
 
 -- the tests of a range check that lets the search begin
 pub record PassedRange (table : List ℕ) (shares masks notion size from to : ℕ) (buffer : List ℕ) (kind : Notion) : Type 0 where
-  pub told : opened_told (Opened.For kind) ≡ opens table shares masks notion
+  pub told : opened_told (Ok kind) ≡ opens table shares masks notion
   pub small : size ≤ max_size
   pub room : size ≤ length buffer
   pub rises : from ≤ to
@@ -87,8 +84,7 @@ pub range_bytes : (table : List ℕ) (shares masks notion size from to : ℕ) (b
 range_bytes table shares masks notion size from to buffer kind p = short table shares masks notion kind p.told
 
 module _ (table : List ℕ) (shares masks notion size from to : ℕ) (buffer : List ℕ) (kind : Notion)
-    (p : PassedRange table shares masks notion size from to buffer kind) (rank : ℕ) (probes : List ℕ)
-    (search : FirstRank (is_breaking kind table max_shares max_masks) (wire_count table) size from to rank probes) where
+    (p : PassedRange table shares masks notion size from to buffer kind) (probes : List ℕ) where
   abbrev result : Lent
   result = range_check table shares masks notion size from to buffer
 
@@ -105,20 +101,19 @@ module _ (table : List ℕ) (shares masks notion size from to : ℕ) (buffer : L
       ∙ sym (range_answered table shares masks notion size from to buffer
       (record { sound = (accepted_exactly table shares masks).1 o.sound; known = o.known; small = p.small; room = p.room }) p.rises p.ends)
 
-  pub range_clean : to ≤ rank → range_told RangeAnswer.Clean buffer ≡ result
-  range_clean h =
-      let last : to ≡ rank = omega (arith, search.high) in
-      decides [] (sym same-sets ∙ ap (λ (k : ℕ). keep (is_breaking kind table max_shares max_masks) (stretch (wire_count table) size from k)) last
-      ∙ search.clean)
+  pub range_clean : FirstRank (is_breaking kind table max_shares max_masks) (wire_count table) size from to None probes
+      → range_told (Ok Checked.Clean) buffer ≡ result
+  range_clean none = decides [] (sym same-sets ∙ none)
 
-  pub range_found : rank < to → (held : List ℕ) → held ≡ written (take (size - 0) probes) buffer
-      → range_told (RangeAnswer.Found size rank) held ≡ result
-  range_found h held wrote =
+  pub range_found : (rank : ℕ) → FirstRank (is_breaking kind table max_shares max_masks) (wire_count table) size from to (Some rank) probes
+      → (held : List ℕ) → held ≡ written (take (size - 0) probes) buffer
+      → range_told (Ok (Checked.Found size rank)) held ≡ result
+  range_found rank search held wrote =
       let n = wire_count table in
       let set = set_at n size rank in
-      let found = search.found h in
-      let counted : rank < binom (wire_count table) size = omega (arith, p.ends) in
-      let first = rank-first (is_breaking kind table max_shares max_masks) n size from rank to search.low h p.ends search.clean found.0 in
+      let found = search.found in
+      let counted : rank < binom (wire_count table) size = omega (arith, search.high, p.ends) in
+      let first = rank-first (is_breaking kind table max_shares max_masks) n size from rank to search.low search.high p.ends search.clean found.0 in
       let all-of-it : size - 0 ≡ size = omega arith in
       let long : size ≡ length set = sym (is_set-parts n size set (set_at-is-set n size rank counted)).0 in
       let copied : held ≡ written set buffer =

@@ -9,8 +9,8 @@ ghost use Rattle.verdict_answers.specs.First.{RangeFinds};
 
 use counts::count;
 use limits::{MAX_SIZE, RECORD_BYTES};
-use opening::{Opened, opening, write};
-use verdict_answers::{RangeAnswer, Refusal};
+use opening::{opening, write};
+use verdict_answers::{Checked, Refusal};
 
 // Whether a set of one size breaks the notion at a rank from `from` up to, without, `to`. The first such set is written, rising, at the
 // start of `set`.
@@ -23,35 +23,31 @@ pub fn range_check(
     from: u64,
     to: u64,
     set: &mut [u16],
-) -> RangeAnswer
+) -> Result<Checked, Refusal>
     ensures set_after { range_told result set.new ≡ range_check table.now shares masks notion size from to set.old }
     ensures range_finds { RangeFinds result table.now shares masks notion size from to set.old set.new }
 {
-    let opened = opening(table, shares, masks, notion);
-    match opened {
-        Opened::Refused(why) => RangeAnswer::Refused(why),
-        Opened::For(kind) => {
-            if MAX_SIZE < size {
-                return RangeAnswer::Refused(Refusal::SizeTooLarge);
-            }
-            if set.len() < size {
-                return RangeAnswer::Refused(Refusal::BufferTooShort);
-            }
-            let counts = counts::table();
-            let all = count(&counts, table.len() / RECORD_BYTES, size);
-            if to < from {
-                return RangeAnswer::Refused(Refusal::RanksOutOfRange);
-            }
-            if all < to {
-                return RangeAnswer::Refused(Refusal::RanksOutOfRange);
-            }
-            let mut probes = [0u16; MAX_SIZE];
-            let rank = search::first_rank(table, &counts, kind, size, from, to, &mut probes);
-            if to <= rank {
-                return RangeAnswer::Clean;
-            }
+    let kind = opening(table, shares, masks, notion)?;
+    if MAX_SIZE < size {
+        return Err(Refusal::SizeTooLarge);
+    }
+    if set.len() < size {
+        return Err(Refusal::BufferTooShort);
+    }
+    let counts = counts::table();
+    let all = count(&counts, table.len() / RECORD_BYTES, size);
+    if to < from {
+        return Err(Refusal::RanksOutOfRange);
+    }
+    if all < to {
+        return Err(Refusal::RanksOutOfRange);
+    }
+    let mut probes = [0u16; MAX_SIZE];
+    match search::first_rank(table, &counts, kind, size, from, to, &mut probes) {
+        None => Ok(Checked::Clean),
+        Some(rank) => {
             write(&probes[0..size], set);
-            RangeAnswer::Found { size, rank }
+            Ok(Checked::Found { size, rank })
         }
     }
 }

@@ -5,6 +5,7 @@
 --     part-refused, part_given     what another answer makes of the same tests
 --     part-told                    the part is the text's, by the offset and length that the check tells; refused, it is empty
 --     start-told                   where it starts
+use Rattle.std.specs.Prelude.{Ok, Err}
 use Prim.Native.Nat.{ℕ, ◌+◌, ◌*◌, ◌%◌, ◌≤◌, ◌<◌}
 use native.Mathlib.Omega.{arith}
 use mathlib.Core.Path.{◌≡◌, refl, sym, ◌∙◌, ap₂}
@@ -21,7 +22,6 @@ use Rattle.table.proofs.Conditions.{length-exactly}
 use Rattle.reader.specs.Conditions.{part_conditions}
 use Rattle.reader.proofs.Conditions.{part_chain, part_settled}
 use Rattle.reader.specs.Answers.{part_refusal_number, part_told, part_checked, part_check, text_part, part_start}
-use Rattle.reader.specs.declared.PartAnswer.{PartAnswer}
 use Rattle.reader.specs.declared.PartRefusal.{PartRefusal}
 
 short-small : (table : List ℕ) (wire at : ℕ) → Bytes table → wire < wire_count table → at + 2 ≤ record_bytes → field at 2 (record_at table wire) < 65536
@@ -101,6 +101,6 @@ pub part-numbers : (part_refusal_number PartRefusal.TableLength ≡ 12) × (part
 part-numbers = (refl, refl, refl)
 
 -- what each answer of the check tells
-pub parts-told : ((offset size : ℕ) → part_told (PartAnswer.Part offset size) ≡ values (offset ∷ size ∷ []))
-    × ((why : PartRefusal) → part_told (PartAnswer.Refused why) ≡ refusal (part_refusal_number why))
+pub parts-told : ((offset size : ℕ) → part_told (Ok (record { offset = offset; length = size })) ≡ values (offset ∷ size ∷ []))
+    × ((why : PartRefusal) → part_told (Err why) ≡ refusal (part_refusal_number why))
 parts-told = (λ offset size. refl, λ why. refl)

@@ -6,6 +6,7 @@
 --     promised           both promises of reading, from its equation
 --     reads_grammar      whatever is told as the definition tells it is read exactly when the text spells a description within the limits, and
 --                        gives that description's wires
+use Rattle.std.specs.Prelude.{Result, Ok, Err}
 use Prim.Native.Nat.{ℕ, ◌+◌, ◌*◌, ◌%◌, ◌≤◌, ◌<◌}
 use native.Mathlib.Nat.{mul_comm, mul-mod_left}
 use native.Mathlib.Omega.{arith}
@@ -25,6 +26,7 @@ use Rattle.table.specs.Answers.{table_check}
 use Rattle.description.specs.Listing.{records_of}
 use Rattle.description.specs.Grammar.{Description, Spells, Limits, wires_of, mask_count}
 use Rattle.description.specs.Run.{Reading, read, turned_down, reading, refusal_number}
+use Rattle.description.specs.declared.Fault.{Fault}
 use Rattle.description.specs.declared.Listed.{Listed}
 use Rattle.description.specs.declared.Refusal.{Refusal}
 use Rattle.description.specs.declared.Refusal.TheVariants.{TooManyWires}
@@ -36,7 +38,7 @@ use Rattle.scratch_reader.specs.Answers.{tableless}
 use Rattle.scratch_reader.specs.Scratch.{Scratched}
 use Rattle.reader.specs.Reads.{Readable, Given, ReadsGrammar}
 use Rattle.reader.proofs.Parts.{part-exactly}
-use Rattle.scratch_reader.specs.declared.ReadAnswer.{ReadAnswer}
+use Rattle.scratch_reader.specs.declared.Reading.{Reading as Figures}
 
 pub tableless-read : (text : List ℕ) (order masks : ℕ) (ws : List Listed) → tableless text (reading text) ≡ read order masks ws
     → (reading text ≡ read order masks ws) × (length ws ≤ max_wires)
@@ -97,7 +99,7 @@ module _ (text table : List ℕ) where
           sized false g e = let z : ◌≡◌ {A = ℕ} 0 1 = cc in absurd (omega (arith, z))
 
   pub read-refused : (why : Refusal) (offset : ℕ) → tableless text (reading text) ≡ turned_down why offset
-      → read_told (ReadAnswer.Refused why offset) table ≡ read_text text table
+      → read_told (Err (record { why = why; offset = offset })) table ≡ read_text text table
   read-refused why offset e = sym (tableless_down why offset e)
 
   -- the same for the wires that the code counted
@@ -105,17 +107,17 @@ module _ (text table : List ℕ) where
     reads : reading text ≡ read order masks s.listed-wires
     reads = (tableless-read text order masks s.listed-wires s.reads).0
 
-    pub read_short : length table < record_bytes * wires → read_told (ReadAnswer.Refused TooManyWires (length text)) table ≡ read_text text table
+    pub read_short : length table < record_bytes * wires → read_told (Err (record { why = TooManyWires; offset = (length text) })) table ≡ read_text text table
     read_short h = sym (too_large_lem order masks s.listed-wires reads (inr (omega (arith, s.count, h))))
 
     pub read_copied : (held : List ℕ) → record_bytes * wires ≤ length table
         → held ≡ take (record_bytes * wires) scratch ++ drop (record_bytes * wires) table
-        → read_told (ReadAnswer.Read order shares masks wires) held ≡ read_text text table
+        → read_told (Ok (record { order = order; shares = shares; masks = masks; wires = wires })) held ≡ read_text text table
     read_copied held room e =
-        ap₂ (λ (n : ℕ) (l : List ℕ). read_told (ReadAnswer.Read order n masks wires) l) s.same_shares
+        ap₂ (λ (n : ℕ) (l : List ℕ). read_told (Ok (record { order = order; shares = n; masks = masks; wires = wires })) l) s.same_shares
         (e ∙ ap (λ (l : List ℕ). l ++ drop (record_bytes * wires) table) s.records)
         ∙ ap
-        (λ (n : ℕ). read_told (ReadAnswer.Read order (order + 1) masks n) (records_of s.listed-wires ++ drop (record_bytes * n) table))
+        (λ (n : ℕ). read_told (Ok (record { order = order; shares = (order + 1); masks = masks; wires = n })) (records_of s.listed-wires ++ drop (record_bytes * n) table))
         s.count
         ∙ sym (large-enough order masks s.listed-wires reads (omega (arith, s.count, s.few)) (omega (arith, s.count, room)))
 
@@ -131,11 +133,11 @@ module _ (text table : List ℕ) where
     room : record_bytes * length listed-wires ≤ length table
     holds : held ≡ records_of listed-wires ++ drop (record_bytes * length listed-wires) table
 
-  granted : (order shares masks wires : ℕ) (held : List ℕ) → read_told (ReadAnswer.Read order shares masks wires) held ≡ read_text text table
+  granted : (order shares masks wires : ℕ) (held : List ℕ) → read_told (Ok (record { order = order; shares = shares; masks = masks; wires = wires })) held ≡ read_text text table
       → Granted order shares masks wires held
   granted order shares masks wires held e = from (reading text) refl e
     where
-      from : (r : Reading) → reading text ≡ r → read_told (ReadAnswer.Read order shares masks wires) held ≡ lent_reading text table r
+      from : (r : Reading) → reading text ≡ r → read_told (Ok (record { order = order; shares = shares; masks = masks; wires = wires })) held ≡ lent_reading text table r
           → Granted order shares masks wires held
       from (turned_down why offset) f e =
           let same : gives order shares masks wires ≡ refused (refusal_number why) offset = ap (λ (l : ReadLent). l.told) e in
@@ -143,7 +145,7 @@ module _ (text table : List ℕ) where
       from (read o m ws) f e = sized (too_large table (length ws)) refl e
         where
           sized : (b : Bool) → too_large table (length ws) ≡ b
-              → read_told (ReadAnswer.Read order shares masks wires) held
+              → read_told (Ok (record { order = order; shares = shares; masks = masks; wires = wires })) held
               ≡ cond b (record { told = refused 10 (length text); held = table })
               (record { told = gives o (o + 1) m (length ws); held = records_of ws ++ drop (record_bytes * length ws) table })
               → Granted order shares masks wires held
@@ -258,31 +260,35 @@ module _ (text table : List ℕ) where
       let d = r.description in
       large-enough d.order (mask_count d.names) (wires_of d) (spelled-read text d r.spells r.limits) r.few-wires r.table_room
 
-  pub reads_grammar : (answer : ReadAnswer) (held : List ℕ) → read_told answer held ≡ read_text text table
+  pub reads_grammar : (answer : Result Figures Fault) (held : List ℕ) → read_told answer held ≡ read_text text table
       → ReadsGrammar answer text (length table) held
-  reads_grammar (ReadAnswer.Read order shares masks wires) held e =
-      let g = granted order shares masks wires held e in
+  reads_grammar (Ok r) held e =
+      let g = granted r.order r.shares r.masks r.wires held e in
       record {
-        read-exactly = (λ _. readable order shares masks wires held g, λ _ why offset f. let z : ◌≡◌ {A = ℕ} 0 1 = cc in absurd (omega (arith, z)));
+        read-exactly = (λ _. readable r.order r.shares r.masks r.wires held g, λ _ fault f. let z : ◌≡◌ {A = ℕ} 0 1 = cc in absurd (omega (arith, z)));
         read-gives =
-            λ o s m w f d spells.
-            given o s m w held (granted o s m w held (ap (λ (a : ReadAnswer). read_told a held) (sym f) ∙ e)) d spells;
-        read-passes = λ o s m w f. passes o s m w held (granted o s m w held (ap (λ (a : ReadAnswer). read_told a held) (sym f) ∙ e));
+            λ q f d spells.
+            given q.order q.shares q.masks q.wires held
+            (granted q.order q.shares q.masks q.wires held (ap (λ (a : Result Figures Fault). read_told a held) (sym f) ∙ e)) d spells;
+        read-passes =
+            λ q f.
+            passes q.order q.shares q.masks q.wires held
+            (granted q.order q.shares q.masks q.wires held (ap (λ (a : Result Figures Fault). read_told a held) (sym f) ∙ e));
       }
-  reads_grammar (ReadAnswer.Refused why offset) held e = record {
+  reads_grammar (Err fault) held e = record {
     read-exactly = (
-      λ never. absurd (never why offset refl),
-      λ r why' offset' f.
-          let h : refused (refusal_number why) offset
+      λ never. absurd (never fault refl),
+      λ r other f.
+          let h : refused (refusal_number fault.why) fault.offset
           ≡ gives r.description.order (r.description.order + 1) (mask_count r.description.names) (length (wires_of r.description)) =
           ap (λ (l : ReadLent). l.told) (e ∙ readable_told r) in
           let z : ◌≡◌ {A = ℕ} 0 1 = cc in absurd (omega (arith, z)),
     );
-    read-gives = λ o s m w f d spells. let z : ◌≡◌ {A = ℕ} 0 1 = cc in absurd (omega (arith, z));
-    read-passes = λ o s m w f. let z : ◌≡◌ {A = ℕ} 0 1 = cc in absurd (omega (arith, z));
+    read-gives = λ q f d spells. let z : ◌≡◌ {A = ℕ} 0 1 = cc in absurd (omega (arith, z));
+    read-passes = λ q f. let z : ◌≡◌ {A = ℕ} 0 1 = cc in absurd (omega (arith, z));
   }
 
   -- both promises of reading
-  pub promised : (answer : ReadAnswer) (held : List ℕ) → read_told answer held ≡ read_text text table
+  pub promised : (answer : Result Figures Fault) (held : List ℕ) → read_told answer held ≡ read_text text table
       → (read_told answer held ≡ read_text text table) × ReadsGrammar answer text (length table) held
   promised answer held e = (e, reads_grammar answer held e)

@@ -8,16 +8,17 @@
 --     part_checked, part_check          what the check of a text part is to tell: the offset and length, or the refusal
 --     text_part            the part of the text, empty where it is refused
 --     part_start           where in the text the part starts; an empty part stands at the text's start
-use Rattle.std.specs.Prelude.{ℕ, ◌+◌, ◌*◌, Bool, cond, ◌||◌, List, [], ◌∷◌, ◌++◌, ltb, leb, length, take, drop}
+use Rattle.std.specs.Prelude.{ℕ, ◌+◌, ◌*◌, Bool, cond, ◌||◌, List, [], ◌∷◌, ◌++◌, ltb, leb, length, take, drop, Result, Ok, Err}
 use Rattle.limits.specs.Limits.{max_wires, record_bytes}
 use Rattle.basics.specs.Told.{Told, values, refusal}
 use Rattle.records.specs.Layout.{record_at, wire_count, offset_of, length_of}
 use Rattle.table.specs.Answers.{wrong_length}
 use Rattle.description.specs.Listing.{records_of}
 use Rattle.description.specs.Run.{refusal_number, Reading, read, turned_down, reading}
-use Rattle.scratch_reader.specs.declared.ReadAnswer.{ReadAnswer}
+use Rattle.description.specs.declared.Fault.{Fault}
+use Rattle.scratch_reader.specs.declared.Reading.{Reading as Figures}
 use Rattle.reader.specs.declared.PartRefusal.{PartRefusal}
-use Rattle.reader.specs.declared.PartAnswer.{PartAnswer}
+use Rattle.reader.specs.declared.Part.{Part}
 
 pub data ReadTold : Type 0 where
   gives : (order shares masks wires : ℕ) → ReadTold
@@ -27,9 +28,9 @@ pub record ReadLent : Type 0 where
   pub told : ReadTold
   pub held : List ℕ
 
-abbrev pub read_told : ReadAnswer → List ℕ → ReadLent
-read_told (ReadAnswer.Read order shares masks wires) held = record { told = gives order shares masks wires; held = held }
-read_told (ReadAnswer.Refused why offset) held = record { told = refused (refusal_number why) offset; held = held }
+abbrev pub read_told : Result Figures Fault → List ℕ → ReadLent
+read_told (Ok r) held = record { told = gives r.order r.shares r.masks r.wires; held = held }
+read_told (Err fault) held = record { told = refused (refusal_number fault.why) fault.offset; held = held }
 
 -- 10: over 512 wires or lent table too short
 abbrev pub too_large : List ℕ → ℕ → Bool
@@ -53,9 +54,9 @@ part_refusal_number PartRefusal.TableLength = 12
 part_refusal_number PartRefusal.NoSuchWire = 21
 part_refusal_number PartRefusal.OutsideTheText = 22
 
-abbrev pub part_told : PartAnswer → Told
-part_told (PartAnswer.Part offset size) = values (offset ∷ size ∷ [])
-part_told (PartAnswer.Refused why) = refusal (part_refusal_number why)
+abbrev pub part_told : Result Part PartRefusal → Told
+part_told (Ok part) = values (part.offset ∷ part.length ∷ [])
+part_told (Err why) = refusal (part_refusal_number why)
 
 -- of the table's tests 12 alone, then 21 for a wire beyond the table, 22 for a part outside the text
 abbrev pub part_checked : {A : Type 0} → (ℕ → A) → (ℕ → ℕ → A) → List ℕ → List ℕ → ℕ → A

@@ -1,16 +1,16 @@
 // The reader of descriptions, and the text part of a wire (scope, "The description text", "Wires" and "What each operation turns down").
 // Every argument may be anything its type holds: what is out of range is refused, in the scope's order, and a refusal alters no lent byte.
-// The type of reading's answer is passed on from `scratch_reader`.
+// The type of what a text that was read gives is passed on from `scratch_reader`.
 #![tactic(auto)]
 
 ghost use Rattle.std.specs.Prelude.{◌≡◌, ◌≤◌, ◌+◌, length, take, drop, ◌++◌};
 ghost use Rattle.reader.specs.Answers.{read_told, read_text, part_refusal_number, part_told, part_check, text_part, part_start};
 ghost use Rattle.reader.specs.Reads.{ReadsGrammar};
 
-use description::Refusal;
+use description::{Fault, Refusal};
 use limits::{MAX_TABLE_BYTES, RECORD_BYTES};
 use records::layout::text_place;
-pub use scratch_reader::ReadAnswer;
+pub use scratch_reader::Reading;
 
 // Why a text part is refused.
 #[derive(Clone, Copy)]
@@ -33,69 +33,52 @@ impl PartRefusal {
     }
 }
 
-// Where the part of the text that computes a wire stands, or why there is none.
+// Where the part of the text that computes a wire stands.
 #[derive(Clone, Copy)]
-pub enum PartAnswer {
-    Part { offset: usize, length: usize },
-    Refused(PartRefusal),
+pub struct Part {
+    pub offset: usize,
+    pub length: usize,
 }
 
 // Reads a text into the wires that its grammar gives.
-pub fn read_text(text: &[u8], table: &mut [u8]) -> ReadAnswer
+pub fn read_text(text: &[u8], table: &mut [u8]) -> Result<Reading, Fault>
     ensures table_after { read_told result table.new ≡ read_text text.now table.old }
     ensures reads_grammar { ReadsGrammar result text.now (length table.old) table.new }
 {
     let mut scratch = [0u8; MAX_TABLE_BYTES];
-    let read = scratch_reader::read_scratch(text, &mut scratch);
-    match read {
-        ReadAnswer::Refused { why, offset } => ReadAnswer::Refused {
-            why: why,
-            offset: offset,
-        },
-        ReadAnswer::Read {
-            order,
-            shares,
-            masks,
-            wires,
-        } => {
-            if table.len() < RECORD_BYTES * wires {
-                return ReadAnswer::Refused {
-                    why: Refusal::TooManyWires,
-                    offset: text.len(),
-                };
-            }
-            copy(table, &scratch, RECORD_BYTES * wires);
-            ReadAnswer::Read {
-                order: order,
-                shares: shares,
-                masks: masks,
-                wires: wires,
-            }
-        }
+    let reading = scratch_reader::read_scratch(text, &mut scratch)?;
+    let size = RECORD_BYTES * reading.wires;
+    if table.len() < size {
+        return Err(Fault {
+            why: Refusal::TooManyWires,
+            offset: text.len(),
+        });
     }
+    copy(table, &scratch, size);
+    Ok(reading)
 }
 
 // Where the part of the text that computes a wire stands, or why there is none.
-pub fn text_part_check(text: &[u8], table: &[u8], wire: usize) -> PartAnswer
+pub fn text_part_check(text: &[u8], table: &[u8], wire: usize) -> Result<Part, PartRefusal>
     ensures { part_told result ≡ part_check text.now table.now wire }
 {
     if table.len() % RECORD_BYTES != 0 {
-        return PartAnswer::Refused(PartRefusal::TableLength);
+        return Err(PartRefusal::TableLength);
     }
     if MAX_TABLE_BYTES < table.len() {
-        return PartAnswer::Refused(PartRefusal::TableLength);
+        return Err(PartRefusal::TableLength);
     }
     if table.len() / RECORD_BYTES <= wire {
-        return PartAnswer::Refused(PartRefusal::NoSuchWire);
+        return Err(PartRefusal::NoSuchWire);
     }
     let place = text_place(table, wire);
     if text.len() < place.offset + place.length {
-        return PartAnswer::Refused(PartRefusal::OutsideTheText);
+        return Err(PartRefusal::OutsideTheText);
     }
-    PartAnswer::Part {
+    Ok(Part {
         offset: place.offset,
         length: place.length,
-    }
+    })
 }
 
 // The part of the caller's own text that computes a wire; empty where the check refuses it. A reference's place is a block of memory and an
@@ -104,10 +87,9 @@ pub fn text_part<'a>(text: &'a [u8], table: &[u8], wire: usize) -> &'a [u8]
     ensures result_value { result.now ≡ text_part text.now table.now wire }
     ensures ref_ptr_value { (result.ref_ptr.0 ≡ text.entry.ref_ptr.0) × (result.ref_ptr.1 ≡ text.entry.ref_ptr.1 + part_start text.now table.now wire) }
 {
-    let found = text_part_check(text, table, wire);
-    match found {
-        PartAnswer::Refused(why) => &text[0..0],
-        PartAnswer::Part { offset, length } => &text[offset..offset + length],
+    match text_part_check(text, table, wire) {
+        Err(why) => &text[0..0],
+        Ok(part) => &text[part.offset..part.offset + part.length],
     }
 }
 
@@ -116,7 +98,5 @@ fn copy(table: &mut [u8], from: &[u8], count: usize)
     requires { (count ≤ length table.old) × (count ≤ length from.now) }
     ensures { table.new ≡ take count from.now ++ drop count table.old }
 {
-    for i in 0..count {
-        table[i] = from[i];
-    }
+    table[..count].copy_from_slice(&from[..count]);
 }

@@ -2,12 +2,11 @@
 --     first-products, first_shares      the two tables of the code, by one test over each
 --     terms                             what makes words the record of a function
 --     product_record, sum_record, copy_record           the records that the code gives for the three functions
---     words_blank                       the test of four words
---     mask_left, product_left, a_left, then_b           its answers
+--     words_blank                       the test that four words are 0
 use Prim.Native.Nat.{ℕ, ◌+◌, ◌*◌, ◌/◌, ◌%◌, ◌^◌, ◌≤◌, ◌<◌, suc-le-suc}
 use native.Mathlib.Nat.{mod-lt, zero-lt-suc}
 use native.Mathlib.Omega.{arith}
-use mathlib.Core.Path.{◌≡◌, refl, sym, ◌∙◌, ap, ap₂}
+use mathlib.Core.Path.{◌≡◌, refl, sym, ◌∙◌, ap}
 use mathlib.Core.Bool.{Bool, true, false, not, ◌&&◌, xor}
 use mathlib.Core.List.{List, [], ◌∷◌}
 use borrow.Author.Tests.{eqb-true, eq-eqb, ne_eqb, not-true}
@@ -79,21 +78,26 @@ copy_record function n h e f =
     (λ i j k l. bit-zero (8 * i + j)) (λ i k. first_shares n i h k) (λ j k. bit-zero j)
 
 module _ (p m a b : ℕ) (lp : p < 2 ^ 64) (lm : m < 2 ^ 64) (la : a < 2 ^ 8) (lb : b < 2 ^ 8) where
-  pub words_blank : (eqb m 0 && eqb p 0 && eqb a 0 && eqb b 0) ≡ blank max_shares max_masks (decode_terms p m a b)
-  words_blank = bool_ext (eqb m 0 && eqb p 0 && eqb a 0 && eqb b 0) (blank max_shares max_masks (decode_terms p m a b)) there back
+  -- as `==` tests them
+  abbrev words-zero : Bool
+  words-zero = eqb p 0 && (eqb m 0 && (eqb a 0 && eqb b 0))
+
+  pub words_blank : words-zero ≡ blank max_shares max_masks (decode_terms p m a b)
+  words_blank = bool_ext words-zero (blank max_shares max_masks (decode_terms p m a b)) there back
     where
       of_zero : (w k : ℕ) → w ≡ 0 → bit w k ≡ false
       of_zero w k e = ap (λ (x : ℕ). bit x k) e ∙ bit-zero k
 
-      there : (eqb m 0 && eqb p 0 && eqb a 0 && eqb b 0) ≡ true → blank max_shares max_masks (decode_terms p m a b) ≡ true
+      there : words-zero ≡ true → blank max_shares max_masks (decode_terms p m a b) ≡ true
       there e =
-          let three = and_left (eqb m 0 && eqb p 0 && eqb a 0) (eqb b 0) e in
-          let two = and_left (eqb m 0 && eqb p 0) (eqb a 0) three in
+          let three = and_right (eqb p 0) (eqb m 0 && (eqb a 0 && eqb b 0)) e in
+          let two = and_right (eqb m 0) (eqb a 0 && eqb b 0) three in
           bits_blank max_shares max_masks (decode_terms p m a b) (record {
-            no_product_lem = λ i j k l. within_row j (bit p (8 * i + j)) l ∙ of_zero p (8 * i + j) (eqb-true p 0 (and_right (eqb m 0) (eqb p 0) two));
-            no_share_a = λ i k. of_zero a i (eqb-true a 0 (and_right (eqb m 0 && eqb p 0) (eqb a 0) three));
-            no_share_b = λ j k. of_zero b j (eqb-true b 0 (and_right (eqb m 0 && eqb p 0 && eqb a 0) (eqb b 0) e));
-            no_mask_lem = λ i k. of_zero m i (eqb-true m 0 (and_left (eqb m 0) (eqb p 0) two));
+            no_product_lem = λ i j k l. within_row j (bit p (8 * i + j)) l
+                ∙ of_zero p (8 * i + j) (eqb-true p 0 (and_left (eqb p 0) (eqb m 0 && (eqb a 0 && eqb b 0)) e));
+            no_share_a = λ i k. of_zero a i (eqb-true a 0 (and_left (eqb a 0) (eqb b 0) two));
+            no_share_b = λ j k. of_zero b j (eqb-true b 0 (and_right (eqb a 0) (eqb b 0) two));
+            no_mask_lem = λ i k. of_zero m i (eqb-true m 0 (and_left (eqb m 0) (eqb a 0 && eqb b 0) three));
           })
 
       -- the place of a product's bit: its row and its column
@@ -104,28 +108,9 @@ module _ (p m a b : ℕ) (lp : p < 2 ^ 64) (lm : m < 2 ^ 64) (la : a < 2 ^ 8) (l
           ap (bit p) (sym e) ∙ sym (within_row (q % 8) (bit p (8 * (q / 8) + q % 8)) (mod-lt q (zero-lt-suc 7)))
           ∙ n.no_product_lem (q / 8) (q % 8) r (mod-lt q (zero-lt-suc 7))
 
-      back : blank max_shares max_masks (decode_terms p m a b) ≡ true → (eqb m 0 && eqb p 0 && eqb a 0 && eqb b 0) ≡ true
+      back : blank max_shares max_masks (decode_terms p m a b) ≡ true → words-zero ≡ true
       back e =
           let n = blank_bits max_shares max_masks (decode_terms p m a b) e in
-          and_both (eqb m 0 && eqb p 0 && eqb a 0) (eqb b 0)
-          (and_both (eqb m 0 && eqb p 0) (eqb a 0)
-          (and_both (eqb m 0) (eqb p 0) (eq-eqb m 0 (no_bit 64 m lm n.no_mask_lem)) (eq-eqb p 0 (no_bit 64 p lp (λ q h. placed q h n))))
-          (eq-eqb a 0 (no_bit 8 a la n.no_share_a)))
-          (eq-eqb b 0 (no_bit 8 b lb n.no_share_b))
-
-  -- the four answers of the code
-  pub mask_left : (m ≡ 0 → ⊥) → false ≡ blank max_shares max_masks (decode_terms p m a b)
-  mask_left d = ap (λ (z : Bool). z && eqb p 0 && eqb a 0 && eqb b 0) (sym (ne_eqb m 0 d)) ∙ words_blank
-
-  pub product_left : m ≡ 0 → (p ≡ 0 → ⊥) → false ≡ blank max_shares max_masks (decode_terms p m a b)
-  product_left em d = ap₂ (λ (y z : Bool). y && z && eqb a 0 && eqb b 0) (sym (eq-eqb m 0 em)) (sym (ne_eqb p 0 d)) ∙ words_blank
-
-  pub a_left : m ≡ 0 → p ≡ 0 → (a ≡ 0 → ⊥) → false ≡ blank max_shares max_masks (decode_terms p m a b)
-  a_left em ep d =
-      ap₂ (λ (y z : Bool). true && y && z && eqb b 0) (sym (eq-eqb p 0 ep)) (sym (ne_eqb a 0 d))
-      ∙ ap (λ (z : Bool). z && eqb p 0 && eqb a 0 && eqb b 0) (sym (eq-eqb m 0 em)) ∙ words_blank
-
-  pub then_b : m ≡ 0 → p ≡ 0 → a ≡ 0 → eqb b 0 ≡ blank max_shares max_masks (decode_terms p m a b)
-  then_b em ep ea =
-      ap₂ (λ (y z : Bool). true && y && z && eqb b 0) (sym (eq-eqb p 0 ep)) (sym (eq-eqb a 0 ea))
-      ∙ ap (λ (z : Bool). z && eqb p 0 && eqb a 0 && eqb b 0) (sym (eq-eqb m 0 em)) ∙ words_blank
+          and_both (eqb p 0) (eqb m 0 && (eqb a 0 && eqb b 0)) (eq-eqb p 0 (no_bit 64 p lp (λ q h. placed q h n)))
+          (and_both (eqb m 0) (eqb a 0 && eqb b 0) (eq-eqb m 0 (no_bit 64 m lm n.no_mask_lem))
+          (and_both (eqb a 0) (eqb b 0) (eq-eqb a 0 (no_bit 8 a la n.no_share_a)) (eq-eqb b 0 (no_bit 8 b lb n.no_share_b))))

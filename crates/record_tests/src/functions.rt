@@ -5,7 +5,7 @@ ghost use Rattle.wires.specs.Function.{function_terms, blank};
 ghost use Rattle.records.specs.Layout.{terms_of};
 ghost use Rattle.record_tests.specs.Cut.{FirstShares};
 
-use records::sums::Sum;
+use records::sums::{Sum, nothing};
 
 // All products of the first n shares of a and the first n of b, at place n.
 const FIRST_PRODUCTS: [u64; 9] = [
@@ -24,6 +24,7 @@ const FIRST_PRODUCTS: [u64; 9] = [
 const FIRST_SHARES: [u8; 9] = [0, 0x01, 0x03, 0x07, 0x0f, 0x1f, 0x3f, 0x7f, 0xff];
 
 // The record of a function of operands with so many shares: for 1 all products, for 2 all shares of a and of b, for 3 those of a.
+// kept: the numbers 1 to 3 come from C and stand in `function_terms`
 pub fn function_record(shares: usize, function: usize) -> Sum
     requires { shares ≤ max_shares }
     ensures { FirstShares shares (function_terms function) (terms_of result) }
@@ -57,14 +58,5 @@ pub fn function_record(shares: usize, function: usize) -> Sum
 pub fn is_blank(sum: Sum) -> bool
     ensures { result ≡ blank max_shares max_masks (terms_of sum) }
 {
-    if sum.masks != 0 {
-        return false;
-    }
-    if sum.products != 0 {
-        return false;
-    }
-    if sum.shares_a != 0 {
-        return false;
-    }
-    sum.shares_b == 0
+    sum == nothing()
 }

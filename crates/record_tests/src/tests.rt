@@ -13,10 +13,7 @@ use shares::shares_seen;
 fn ends_below(word: u64, limit: usize) -> bool
     ensures { result ≡ not (some (λ k. bit word k && leb limit k) (up_to 64)) }
 {
-    if 64 <= limit {
-        return true;
-    }
-    word >> limit == 0
+    64 <= limit || word >> limit == 0
 }
 
 // Whether a sum has no bit beyond the shares and masks. A product beyond is one whose row or column is.
@@ -24,11 +21,5 @@ pub fn is_within(sum: Sum, shares: usize, masks: usize) -> bool
     ensures { result ≡ not (beyond max_shares max_masks shares masks (terms_of sum)) }
 {
     let words = shares_seen(sum);
-    if !ends_below(words.a, shares) {
-        return false;
-    }
-    if !ends_below(words.b, shares) {
-        return false;
-    }
-    ends_below(sum.masks, masks)
+    ends_below(words.a, shares) && ends_below(words.b, shares) && ends_below(sum.masks, masks)
 }

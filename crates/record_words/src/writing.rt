@@ -2,18 +2,18 @@
 ghost use Rattle.std.specs.Prelude.{◌≡◌, ◌≤◌, ◌<◌, ◌+◌, ◌*◌, length};
 ghost use Rattle.std.proofs.lemmas.List.Edits.{sets};
 ghost use Rattle.limits.specs.Limits.{max_wires, record_bytes, max_table_bytes};
-ghost use Rattle.basics.specs.Folds.{one_if};
 ghost use Rattle.records.specs.Words.{bytes_of};
 ghost use Rattle.records.specs.Layout.{outer_at};
 ghost use Rattle.record_words.specs.Writing.{sum_bytes, place_bytes, record_of, outer_bytes};
 
 use limits::RECORD_BYTES;
 use records::layout::{
-    LENGTH_AT, LINE_AT, MASKS_AT, OFFSET_AT, OUTER_AT, SHARES_A_AT, SHARES_B_AT, wide,
+    LENGTH_AT, LINE_AT, MASKS_AT, OFFSET_AT, OUTER_AT, SHARES_A_AT, SHARES_B_AT,
 };
 use records::sums::Sum;
 
 // Writes a number as so many bytes, the lowest first.
+// kept: `copy_from_slice` of `number.to_le_bytes()` would ask that `size` is at most 8, which `write_number` does not ask
 pub fn write_number(table: &mut [u8], at: usize, size: usize, number: u64)
     requires { at + size ≤ length table.old }
     ensures { table.new ≡ sets table.old at (bytes_of size number) }
@@ -32,18 +32,8 @@ fn write_sum(table: &mut [u8], at: usize, sum: Sum)
 {
     write_number(table, at, 8, sum.products);
     write_number(table, at + MASKS_AT, 8, sum.masks);
-    write_number(table, at + SHARES_A_AT, 1, wide(sum.shares_a));
-    write_number(table, at + SHARES_B_AT, 1, wide(sum.shares_b));
-}
-
-// 1 for an outer wire, 0 for an inner one.
-fn one_if(outer: bool) -> u64
-    ensures { result ≡ one_if outer }
-{
-    if outer {
-        return 1;
-    }
-    0
+    write_number(table, at + SHARES_A_AT, 1, u64::from(sum.shares_a));
+    write_number(table, at + SHARES_B_AT, 1, u64::from(sum.shares_b));
 }
 
 // Writes what a record says of the text: 0 inner or 1 outer, output line, offset, length.
@@ -51,7 +41,7 @@ fn write_place(table: &mut [u8], at: usize, outer: bool, line: usize, offset: us
     requires { (at + record_bytes ≤ length table.old) × (length table.old ≡ max_table_bytes) }
     ensures { table.new ≡ sets table.old (at + outer_at) (place_bytes outer line offset size) }
 {
-    write_number(table, at + OUTER_AT, 1, one_if(outer));
+    write_number(table, at + OUTER_AT, 1, u64::from(outer));
     write_number(table, at + LINE_AT, 1, line as u64);
     write_number(table, at + OFFSET_AT, 2, offset as u64);
     write_number(table, at + LENGTH_AT, 2, size as u64);

@@ -8,7 +8,7 @@
 --     total_more           the sum with one wire more of a set
 --     whole_set, whole_table     all wires of the set, of the table
 --     outers_taken, outers_left     the sum of the outer wires with one wire more of the table, an outer or an inner one
-use Prim.Native.Nat.{ℕ, zero, suc, ◌+◌, ◌*◌, ◌≤◌, ◌<◌}
+use Prim.Native.Nat.{ℕ, suc, ◌+◌, ◌*◌, ◌≤◌, ◌<◌}
 use native.Mathlib.Omega.{arith}
 use mathlib.Core.Path.{◌≡◌, sym, ◌∙◌, ap, ap₂}
 use mathlib.Core.Bool.{Bool, true, false, cond, ◌&&◌, and-false}

@@ -1,10 +1,10 @@
 -- The fields of a record, as the code reads them.
---     two_bytes, four_bytes, eight_bytes       the numbers that the code puts together
+--     two_bytes                     the number of two bytes
 --     field_at                      a field of a wire's record stands at its place in the table
 --     byte_at                       a field of one byte
 --     place_fields                  what a record says of the text
 --     record_inside                 a wire's record lies within the table
-use Prim.Native.Nat.{ℕ, zero, suc, ◌+◌, ◌-◌, ◌*◌, ◌^◌, ◌≤◌, ◌<◌}
+use Prim.Native.Nat.{ℕ, zero, suc, ◌+◌, ◌-◌, ◌*◌, ◌≤◌, ◌<◌}
 use native.Mathlib.Nat.{div-mul-le_self, add-zero}
 use native.Mathlib.Omega.{arith}
 use mathlib.Core.Path.{◌≡◌, sym, ◌∙◌, ap}
@@ -22,14 +22,6 @@ step l p q e h = drop-cons l p 0 h ∙ ap {B = List ℕ} (λ (n : ℕ). get_or l
 pub byte_at : (l : List ℕ) (p : ℕ) → p < length l → number (take 1 (drop p l)) ≡ get_or l p 0
 byte_at l p h = ap (λ (k : List ℕ). number (take 1 k)) (drop-cons l p 0 h) ∙ add-zero (get_or l p 0)
 
-unrolled : (l : List ℕ) (at : ℕ) → at + 4 ≤ length l
-    → drop at l ≡ get_or l at 0 ∷ get_or l (at + 1) 0 ∷ get_or l (at + 2) 0 ∷ get_or l (at + 3) 0 ∷ drop (at + 4) l
-unrolled l at h =
-    step l at (at + 1) (omega arith) (omega arith)
-    ∙ ap {B = List ℕ} (λ (k : List ℕ). get_or l at 0 ∷ k) (step l (at + 1) (at + 2) (omega arith) (omega arith)
-    ∙ ap {B = List ℕ} (λ (k : List ℕ). get_or l (at + 1) 0 ∷ k) (step l (at + 2) (at + 3) (omega arith) (omega arith)
-    ∙ ap {B = List ℕ} (λ (k : List ℕ). get_or l (at + 2) 0 ∷ k) (step l (at + 3) (at + 4) (omega arith) (omega arith))))
-
 pub two_bytes : (l : List ℕ) (at a b : ℕ) → at + 2 ≤ length l → a ≡ get_or l at 0 → b ≡ get_or l (at + 1) 0 → a + 256 * b ≡ number (take 2 (drop at l))
 two_bytes l at a b h ea eb =
     let e : number (take 2 (drop at l)) ≡ get_or l at 0 + 256 * (get_or l (at + 1) 0 + 256 * 0) =
@@ -37,26 +29,6 @@ two_bytes l at a b h ea eb =
     (step l at (at + 1) (omega arith) (omega arith) ∙ ap {B =
     List ℕ} (λ (k : List ℕ). get_or l at 0 ∷ k) (step l (at + 1) (at + 2) (omega arith) (omega arith))) in
     omega (arith, ea, eb, e)
-
-pub four_bytes : (l : List ℕ) (at a b c d : ℕ) → at + 4 ≤ length l → a ≡ get_or l at 0 → b ≡ get_or l (at + 1) 0 → c ≡ get_or l (at + 2) 0
-    → d ≡ get_or l (at + 3) 0
-    → a < 256 → b < 256 → c < 256 → d < 256
-    → (a + 256 * b + 65536 * c + 16777216 * d ≡ number (take 4 (drop at l))) × (a + 256 * b + 65536 * c + 16777216 * d < 2 ^ 32)
-four_bytes l at a b c d h ea eb ec ed la lb lc ld =
-    let e : number (take 4 (drop at l)) ≡ get_or l at 0 + 256 * (get_or l (at + 1) 0 + 256 * (get_or l (at + 2) 0 + 256 * (get_or l (at + 3) 0 + 256 * 0))) =
-    ap (λ (k : List ℕ). number (take 4 k)) (unrolled l at h) in
-    (omega (arith, ea, eb, ec, ed, e), omega (arith, la, lb, lc, ld))
-
-pub eight_bytes : (l : List ℕ) (at a b : ℕ) → at + 8 ≤ length l → a ≡ number (take 4 (drop at l)) → b ≡ number (take 4 (drop (at + 4) l))
-    → a + 4294967296 * b ≡ number (take 8 (drop at l))
-eight_bytes l at a b h ea eb =
-    let u = unrolled l at (omega arith) in
-    let e : number (take 8 (drop at l))
-    ≡ get_or l at 0 + 256 * (get_or l (at + 1) 0 + 256 * (get_or l (at + 2) 0 + 256 * (get_or l (at + 3) 0 + 256 * number (take 4 (drop (at + 4) l))))) =
-    ap (λ (k : List ℕ). number (take 8 k)) u in
-    let f : number (take 4 (drop at l)) ≡ get_or l at 0 + 256 * (get_or l (at + 1) 0 + 256 * (get_or l (at + 2) 0 + 256 * (get_or l (at + 3) 0 + 256 * 0))) =
-    ap (λ (k : List ℕ). number (take 4 k)) u in
-    omega (arith, ea, eb, e, f)
 
 pub record_inside : (table : List ℕ) (wire : ℕ) → wire < wire_count table → record_bytes * wire + record_bytes ≤ length table
 record_inside table wire h =

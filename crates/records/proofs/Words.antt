@@ -9,12 +9,14 @@
 --     or-fold                          a word united with itself shifted
 --     bit_power                        a power of two has one bit
 --     words_assoc                      words added without carry, in any grouping
+--     byte-once                        the number of a bool is 1 once or not at all
 use Prim.Native.Nat.{ℕ, zero, suc, ◌+◌, ◌-◌, ◌*◌, ◌/◌, ◌%◌, ◌^◌, ◌≤◌, ◌<◌, suc-le-suc, zero-le}
 use native.Mathlib.Nat.{zero-lt-suc, pow-suc, mod-lt, div-add-mod', le_of_suc-le-suc, lt_of_lt_of_le, div-one, div-eq_of_lt, lt_of_le_of_lt}
 use native.Mathlib.Omega.{arith}
 use native.Mathlib.Decide.{dec_lt}
 use mathlib.Core.Path.{◌≡◌, refl, sym, ◌∙◌, ap, ap₂, subst}
 use mathlib.Core.Bool.{Bool, true, false, not, ◌&&◌, ◌||◌, xor, true≢false, false≢true, and-true}
+use mir.Val.{bool_byte}
 use borrow.Author.Tests.{eq-eqb, eqb-true, le-leb, leb-true}
 use lib.Arith.{lt-one}
 use lib.Bits.{bit_and, bit_or, bit_xor, and_shr, or_shr, xor_shr, and_mod, or_mod, xor_mod, xor_lt}
@@ -198,3 +200,9 @@ words_assoc a b c =
     (xor_lt d a (bit_xor b c) x (xor_lt d b c y z))
     (λ k h. bit-xor (bit_xor a b) c k ∙ ap (λ (v : Bool). xor v (bit c k)) (bit-xor a b k) ∙ xor_assoc (bit a k) (bit b k) (bit c k)
     ∙ sym (bit-xor a (bit_xor b c) k ∙ ap (xor (bit a k)) (bit-xor b c k)))
+
+-- ---- a bool as a number
+
+pub byte-once : (b : Bool) → (bool_byte b ≡ one_if b) × (bool_byte b ≤ 1)
+byte-once true = (refl, suc-le-suc zero-le)
+byte-once false = (refl, zero-le)

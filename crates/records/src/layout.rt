@@ -21,19 +21,11 @@ pub const OFFSET_AT: usize = 20;
 pub const LENGTH_AT: usize = 22;
 
 // A byte as a number of 64 bits.
+// kept: docs/PROMISES.md promises `layout::wide` to the crates above
 pub fn wide(byte: u8) -> u64
     ensures { (result ≡ byte) × (result < 256) }
 {
-    byte as u64
-}
-
-// The number of four bytes.
-fn half_word(bytes: &[u8], at: usize) -> u64
-    requires { at + 4 ≤ length bytes.now }
-    ensures { (result ≡ number (take 4 (drop at bytes.now))) × (result < 2 ^ 32) }
-{
-    let low = wide(bytes[at]) + 256 * wide(bytes[at + 1]);
-    low + 65536 * wide(bytes[at + 2]) + 16777216 * wide(bytes[at + 3])
+    u64::from(byte)
 }
 
 // The number of eight bytes.
@@ -41,7 +33,7 @@ pub fn word(bytes: &[u8], at: usize) -> u64
     requires { at + 8 ≤ length bytes.now }
     ensures { result ≡ number (take 8 (drop at bytes.now)) }
 {
-    half_word(bytes, at) + 4294967296 * half_word(bytes, at + 4)
+    u64::from_le_bytes(bytes[at..at + 8].try_into().unwrap())
 }
 
 // The number of two bytes.
@@ -49,9 +41,7 @@ fn short(bytes: &[u8], at: usize) -> usize
     requires { at + 2 ≤ length bytes.now }
     ensures { result ≡ number (take 2 (drop at bytes.now)) }
 {
-    let low = wide(bytes[at]) as usize;
-    let high = wide(bytes[at + 1]) as usize;
-    low + 256 * high
+    usize::from(u16::from_le_bytes(bytes[at..at + 2].try_into().unwrap()))
 }
 
 // Where a wire stands in the text: its output line, and the offset and length of the part that computes it.

@@ -8,7 +8,7 @@ use super::layout::{MASKS_AT, OUTER_AT, SHARES_A_AT, SHARES_B_AT, word};
 use limits::RECORD_BYTES;
 
 // Records added bit by bit without carry: what stands in their first 18 bytes.
-#[derive(Clone, Copy)]
+#[derive(Clone, Copy, PartialEq, Eq)]
 pub struct Sum {
     pub products: u64,
     pub masks: u64,
@@ -39,6 +39,7 @@ pub fn is_outer(table: &[u8], wire: usize) -> bool
 }
 
 // Two sums added.
+// kept: `s ^ t` is no plainer, since a BitXor impl says one relation `bitxor_gives` in place of the clauses `result_value` and `value`
 pub fn added(s: Sum, t: Sum) -> Sum
     ensures result_value { terms_of result ≡ plus (terms_of s) (terms_of t) }
     ensures value { result ≡ plus_sum s t }
@@ -66,6 +67,7 @@ pub fn with_wire(sum: Sum, table: &[u8], wire: usize) -> Sum
 }
 
 // The sum of no records.
+// kept: `Sum::default()` is no plainer, since a Default impl says one property `is_default` in place of the clauses `result_value` and `value`
 pub fn nothing() -> Sum
     ensures result_value { terms_of result ≡ none }
     ensures value { result ≡ no_sum }
@@ -85,10 +87,8 @@ pub fn sum_of_set(table: &[u8], set: &[u16]) -> Sum
     ensures sum_of_values { SumOfValues (terms_of result) (map (wire_at table.now) set.now) }
 {
     let mut sum = nothing();
-    let mut i = 0;
-    while i < set.len() {
-        sum = with_wire(sum, table, set[i] as usize);
-        i += 1;
+    for wire in set {
+        sum = with_wire(sum, table, usize::from(*wire));
     }
     sum
 }
@@ -100,12 +100,10 @@ pub fn sum_of_outers(table: &[u8]) -> Sum
 {
     let count = table.len() / RECORD_BYTES;
     let mut sum = nothing();
-    let mut wire = 0;
-    while wire < count {
+    for wire in 0..count {
         if is_outer(table, wire) {
             sum = with_wire(sum, table, wire);
         }
-        wire += 1;
     }
     sum
 }

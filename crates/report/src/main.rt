@@ -3,14 +3,13 @@
 // why, which parts of the text compute the wires of a break.
 #![tactic(auto)]
 
-ghost use Rattle.std.specs.Prelude.{◌≤◌, length};
+ghost use Rattle.std.specs.Prelude.{◌≤◌, length, IfSome};
 ghost use Rattle.report_lines.specs.Report.{max_report};
 
 use console::input::{INPUT_BYTES, read_input};
 use console::{output, refusals};
 use limits::{MAX_TABLE_BYTES, RECORD_BYTES};
-use reader::ReadAnswer;
-use report_text::{MAX_REPORT, ReportAnswer};
+use report_text::MAX_REPORT;
 
 mod breaks;
 mod functions;
@@ -21,38 +20,24 @@ fn main(rt: HostRuntime) {
     let notes = rt.stderr();
     let mut text = [0u8; INPUT_BYTES];
     let input = read_input(&mut rt.stdin(), &notes, "report: standard input", &mut text);
-    // a text that was read in part is no text
-    if input.is_whole {
-        let length = input.length;
-        answer(&rt, &notes, &text[0..length]);
+    if let Some(length) = input {
+        answer(&rt, &notes, &text[..length]);
     }
 }
 
 // The text is read here too, for the notes: the report itself is only printed.
 fn answer(rt: &impl Print, notes: &impl Print, text: &[u8]) {
     let mut table = [0u8; MAX_TABLE_BYTES];
-    let read = reader::read_text(text, &mut table);
-    match read {
-        ReadAnswer::Refused { why, offset } => {
+    match reader::read_text(text, &mut table) {
+        Err(fault) => {
             let mut page = [0u8; MAX_REPORT];
-            if print_report(rt, notes, text, &mut page) > 0 {
-                refusals::explain(notes, b"report", text, why, offset);
+            if print_report(rt, notes, text, &mut page).is_some() {
+                refusals::explain(notes, b"report", text, fault.why, fault.offset);
             }
         }
-        ReadAnswer::Read {
-            order,
-            shares,
-            masks,
-            wires,
-        } => {
-            answer_read(
-                rt,
-                notes,
-                text,
-                &table[0..RECORD_BYTES * wires],
-                shares,
-                masks,
-            );
+        Ok(read) => {
+            let table = &table[..RECORD_BYTES * read.wires];
+            answer_read(rt, notes, text, table, read.shares, read.masks);
         }
     }
 }
@@ -73,27 +58,23 @@ fn answer_read(
         sizes::warn(notes, sets);
     }
     let mut page = [0u8; MAX_REPORT];
-    let length = print_report(rt, notes, text, &mut page);
-    if !is_long && length > 0 {
-        functions::explain(notes, table, shares, masks);
+    if let Some(length) = print_report(rt, notes, text, &mut page) {
+        if !is_long {
+            functions::explain(notes, table, shares, masks);
+        }
+        breaks::explain(notes, text, table, shares, masks, &page[..length]);
     }
-    breaks::explain(notes, text, table, shares, masks, &page[0..length]);
 }
 
-// Prints the report and answers its length, or 0 where it could not be printed.
-fn print_report(rt: &impl Print, notes: &impl Print, text: &[u8], page: &mut [u8]) -> usize
+// Prints the report and gives its length, or nothing where it could not be printed.
+fn print_report(rt: &impl Print, notes: &impl Print, text: &[u8], page: &mut [u8]) -> Option<usize>
     requires { max_report ≤ length page.old }
-    ensures { result ≤ length page.new }
+    ensures { IfSome result (λ size. size ≤ length page.new) }
 {
-    let answer = report_text::report(text, page);
-    match answer {
-        ReportAnswer::Written { length } => {
-            if output::print(rt, notes, "report: standard output", &page[0..length]) {
-                return length;
-            }
-            0
-        }
-        // a page of MAX_REPORT bytes is never too short
-        ReportAnswer::Refused(why) => 0,
+    // a page of MAX_REPORT bytes is never too short
+    let length = report_text::report(text, page).ok()?;
+    if output::print(rt, notes, "report: standard output", &page[..length]) {
+        return Some(length);
     }
+    None
 }

@@ -3,7 +3,7 @@ ghost use Rattle.std.specs.Prelude.{◌≤◌, ◌<◌};
 ghost use Rattle.record_words.specs.Symbols.{Small};
 ghost use Rattle.report.specs.Symbols.{symbol_count};
 
-use console::saying::say_number;
+use console::saying::note;
 use limits::{MAX_MASKS, MAX_SHARES};
 use record_words::symbols::is_in;
 use records::sums::Sum;
@@ -41,12 +41,7 @@ pub fn names_share_b(sum: Sum) -> bool {
 fn names_any(sum: Sum, from: usize, to: usize) -> bool
     requires { to ≤ symbol_count }
 {
-    for place in from..to {
-        if is_in(symbol_at(place), sum) {
-            return true;
-        }
-    }
-    false
+    (from..to).any(|place| is_in(symbol_at(place), sum))
 }
 
 fn symbol_at(place: usize) -> Symbol
@@ -67,12 +62,9 @@ fn symbol_at(place: usize) -> Symbol
 
 fn say_symbol(notes: &impl Print, symbol: Symbol) {
     match symbol {
-        Symbol::Product(i, j) => {
-            say_number(notes, b" s", i as u64);
-            say_number(notes, b"", j as u64);
-        }
-        Symbol::ShareA(i) => say_number(notes, b" a", i as u64),
-        Symbol::ShareB(j) => say_number(notes, b" b", j as u64),
-        Symbol::Mask(k) => say_number(notes, b" r", k as u64),
+        Symbol::Product(i, j) => note(notes, format_args!(" s{i}{j}")),
+        Symbol::ShareA(i) => note(notes, format_args!(" a{i}")),
+        Symbol::ShareB(j) => note(notes, format_args!(" b{j}")),
+        Symbol::Mask(k) => note(notes, format_args!(" r{k}")),
     }
 }

@@ -8,7 +8,6 @@ ghost use Rattle.report_lines.specs.Report.{max_report, checked, report};
 
 use figure_lines::{function_line, order_line, refused_line};
 use limits::{MAX_TABLE_BYTES, RECORD_BYTES};
-use reader::ReadAnswer;
 use verdict_lines::notion_line;
 
 // The whole report on a text.
@@ -18,24 +17,12 @@ pub fn whole_report(page: &mut [u8], text: &[u8]) -> usize
     ensures upper_bound { result ≤ max_report }
 {
     let mut table = [0u8; MAX_TABLE_BYTES];
-    let read = reader::read_text(text, &mut table);
-    match read {
-        ReadAnswer::Refused { why, offset } => refused_line(page, why.number() as usize, offset),
-        ReadAnswer::Read {
-            order,
-            shares,
-            masks,
-            wires,
-        } => {
-            let next = order_line(page, order, shares, masks, wires);
-            checked_lines(
-                page,
-                next,
-                &table[0..RECORD_BYTES * wires],
-                order,
-                shares,
-                masks,
-            )
+    match reader::read_text(text, &mut table) {
+        Err(fault) => refused_line(page, fault.why.number() as usize, fault.offset),
+        Ok(read) => {
+            let next = order_line(page, read.order, read.shares, read.masks, read.wires);
+            let table = &table[0..RECORD_BYTES * read.wires];
+            checked_lines(page, next, table, read.order, read.shares, read.masks)
         }
     }
 }

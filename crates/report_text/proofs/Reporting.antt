@@ -8,11 +8,11 @@ use mathlib.Core.Path.{◌≡◌, refl, sym, ap₂}
 use mathlib.Core.List.{List, [], ◌∷◌}
 use lib.ListN.{length}
 use borrow.Author.Tests.{lt-ltb, le-ltb}
+use Rattle.std.specs.Prelude.{Result, Ok, Err}
 use Rattle.basics.specs.Told.{values, turned_down}
 use Rattle.pages.specs.Page.{Wrote}
 use Rattle.report_lines.specs.Report.{report, max_report}
 use Rattle.report_text.specs.declared.Refusal as report-texts
-use Rattle.report_text.specs.declared.ReportAnswer.{ReportAnswer}
 use Rattle.report_text.specs.Report.{report_text, RoomEnough}
 use Rattle.pages.proofs.Writing.{copied, copied_start}
 
@@ -28,16 +28,16 @@ module _ (text buffer blank page : List ℕ) (end : ℕ) (wrote : Wrote blank 0 
       simp (le-ltb (length buffer) (length (report text)) (omega (arith, h, size)))
       (ap₂ (λ (n : ℕ) (l : List ℕ). record { told = values (n ∷ []); held = l }) size c.1)
 
-apart : (why : report-texts.Refusal) (size : ℕ) → ReportAnswer.Refused why ≡ ReportAnswer.Written size → ⊥
+apart : (why : report-texts.Refusal) (size : ℕ) → ◌≡◌ {A = Result ℕ report-texts.Refusal} (Err why) (Ok size) → ⊥
 apart why size e = let z : ◌≡◌ {A = ℕ} 0 1 = cc in omega (arith, z)
 
-pub room-refused : (why : report-texts.Refusal) (room end : ℕ) → end ≤ max_report → room < end → RoomEnough (ReportAnswer.Refused why) room
+pub room-refused : (why : report-texts.Refusal) (room end : ℕ) → end ≤ max_report → room < end → RoomEnough (Err why) room
 room-refused why room end few short = record {
   short = λ size e. absurd (apart why size e);
   enough = λ other e. omega (arith, few, short);
 }
 
-pub room-written : (room end : ℕ) → end ≤ max_report → RoomEnough (ReportAnswer.Written end) room
+pub room-written : (room end : ℕ) → end ≤ max_report → RoomEnough (Ok end) room
 room-written room end few = record {
   short = λ size e. let f : size ≡ end = cc in omega (arith, few, f);
   enough = λ why e. absurd (apart why end (sym e));

@@ -25,23 +25,16 @@ impl Refusal {
     }
 }
 
-// Written gives the report's length.
-#[derive(Clone, Copy)]
-pub enum ReportAnswer {
-    Written { length: usize },
-    Refused(Refusal),
-}
-
-// Writes the report on a text to the start of a buffer.
-pub fn report(text: &[u8], buffer: &mut [u8]) -> ReportAnswer
+// Writes the report on a text to the start of a buffer, and gives its length.
+pub fn report(text: &[u8], buffer: &mut [u8]) -> Result<usize, Refusal>
     ensures buffer_after { report_told result buffer.new ≡ report_text text.now buffer.old }
     ensures room_enough { RoomEnough result (length buffer.old) }
 {
     let mut page = [0u8; MAX_REPORT];
     let length = report_lines::whole_report(&mut page, text);
     if buffer.len() < length {
-        return ReportAnswer::Refused(Refusal::BufferTooShort);
+        return Err(Refusal::BufferTooShort);
     }
     buffer[0..length].copy_from_slice(&page[0..length]);
-    ReportAnswer::Written { length }
+    Ok(length)
 }

@@ -37,14 +37,12 @@ pub fn unrank(table: &[u64; COUNTS], wires: usize, size: usize, rank: u64, set: 
     ensures { set.new ≡ set_at wires size rank ++ drop size set.old }
 {
     let mut n = wires;
-    let mut left = size;
     let mut r = rank;
-    while 0 < left {
-        let wire = top_wire(table, n, left, r);
-        let sets = count(table, wire + 1, left);
+    for place in (0..size).rev() {
+        let wire = top_wire(table, n, place + 1, r);
+        let sets = count(table, wire + 1, place + 1);
         r = sets - 1 - r;
-        left -= 1;
-        set[left] = wire as u16;
+        set[place] = wire as u16;
         n = wire;
     }
 }
@@ -54,9 +52,8 @@ pub fn is_rising(n: usize, set: &[u16]) -> bool
     ensures { result ≡ (rising set.now && below n set.now) }
 {
     let mut next = 0;
-    let mut i = 0;
-    while i < set.len() {
-        let wire = set[i] as usize;
+    for wire in set {
+        let wire = usize::from(*wire);
         if wire < next {
             return false;
         }
@@ -64,7 +61,6 @@ pub fn is_rising(n: usize, set: &[u16]) -> bool
             return false;
         }
         next = wire + 1;
-        i += 1;
     }
     true
 }
@@ -76,12 +72,9 @@ pub fn rank(table: &[u64; COUNTS], n: usize, set: &[u16]) -> u64
     ensures { result ≡ rank_of n set.now }
 {
     let mut r = 0;
-    let mut i = 0;
-    while i < set.len() {
-        let wire = set[i] as usize;
-        let through = count(table, wire + 1, i + 1);
+    for (i, wire) in set.iter().enumerate() {
+        let through = count(table, usize::from(*wire) + 1, i + 1);
         r = through - 1 - r;
-        i += 1;
     }
     r
 }

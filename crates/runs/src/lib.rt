@@ -23,16 +23,6 @@ pub struct Stand {
     pub tally: Tally,
 }
 
-// The smaller of two numbers.
-pub fn least(a: u64, b: u64) -> u64
-    ensures { (result ≤ a) × (result ≤ b) × ((i : ℕ) → i < a → i < b → i < result) }
-{
-    if a < b {
-        return a;
-    }
-    b
-}
-
 // Passes over sets that do not break, as long as the lowest wire alone moves, and no further than to the last rank. This is where a search spends
 // its time: what changes from set to set is at hand.
 pub fn pass_over(
@@ -58,11 +48,9 @@ pub fn pass_over(
         return Stand { rank, tally };
     }
     let mut lowest = probes[0] as usize;
-    let last = from
-        + least(
-            walk::steps_of_lowest(wires, &probes[0..size]) as u64,
-            to - 1 - from,
-        );
+    let steps = walk::steps_of_lowest(wires, &probes[0..size]) as u64;
+    let last = from + steps.min(to - 1 - from);
+    // kept: the rank is given where the walk stops and where it ends; a `for` would say each end by itself
     while rank < last {
         if sum_breaks(ones, tally.sum, tally.paid) {
             return Stand { rank, tally };

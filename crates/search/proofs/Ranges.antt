@@ -4,16 +4,16 @@
 --     clean_range                  the same from every rank in turn
 --     rank-first                   what is found first in a range
 --     rank-found, rank-none        the range's result, where a set was found and where none was
---     range_told_lem                   what was found, as the range check asks it
+--     range_found_lem, range_clean_lem     what was found, as the range check asks it
 use Prim.Native.Nat.{ℕ, suc, ◌+◌, ◌-◌, ◌≤◌, ◌<◌}
 use native.Mathlib.Nat.{le_refl}
-use native.Mathlib.Decide.{dec_lt}
 use native.Mathlib.Omega.{arith}
 use mathlib.Core.Path.{◌≡◌, sym, ◌∙◌, ap, subst}
 use mathlib.Core.Bool.{Bool, true, false}
 use mathlib.Core.List.{List, [], ◌∷◌}
 use lib.ListN.{length, get_or, take, drop, length-drop}
 use lib.Seq.{take-take, get_or-take, get_or-drop, length-take-le}
+use Rattle.std.specs.Prelude.{None, Some}
 use Rattle.basics.specs.Folds.{keep}
 use Rattle.basics.proofs.Numbers.{from_on}
 use Rattle.counts.specs.Counts.{binom}
@@ -72,37 +72,26 @@ module _ (test : List ℕ → Bool) (n k from : ℕ) where
       )
 
   pub rank-found : (rank to : ℕ) (held : List ℕ) → from ≤ rank → rank < to → to ≤ binom n k → RangeClean rank
-      → true ≡ test (set_at n k rank) → take k held ≡ set_at n k rank → FirstRank test n k from to rank held
+      → true ≡ test (set_at n k rank) → take k held ≡ set_at n k rank → FirstRank test n k from to (Some rank) held
   unfolding RangeClean
-  rank-found rank to held low high h clean e here =
-      record {
-        low = low;
-        high = omega arith;
-        clean = clean;
-        found = λ less. (sym e, here);
-      }
+  rank-found rank to held low high h clean e here = record { low = low; high = high; clean = clean; found = (sym e, here) }
 
-  pub rank-none : (rank to : ℕ) (held : List ℕ) → from ≤ rank → rank ≤ to → to ≤ rank → RangeClean rank → FirstRank test n k from to rank held
+  pub rank-none : (to : ℕ) (held : List ℕ) → RangeClean to → FirstRank test n k from to None held
   unfolding RangeClean
-  rank-none rank to held low high out clean =
-      record { low = low; high = high; clean = clean; found = λ less. let z : ⊥ = omega arith in absurd z }
+  rank-none to held clean = clean
 
-pub range_told_lem : (test : List ℕ → Bool) (n k from to : ℕ) (found : Found) (held : List ℕ) → from ≤ to → to ≤ binom n k
-    → FirstFound test n k k from to found held → FirstRank test n k from to found.rank held
-range_told_lem test n k from to found held rises counted f = go (dec_lt found.rank to)
-  where
-    go : Dec (found.rank < to) → FirstRank test n k from to found.rank held
-    go (yes p) =
-        let at = f.some p in
-        let same : found.size ≡ k = omega (arith, at.size_low, at.size_high) in
-        let Sized : ℕ → Type 0 = λ j. ((i : ℕ) → from ≤ i → i < found.rank → test (set_at n j i) ≡ false) in
-        rank-found test n k from found.rank to held at.rank-low p counted
-        (clean_range test n k from found.rank at.rank-low (omega (arith, p, counted)) (subst Sized same at.earlier))
-        (sym (subst (λ (j : ℕ). test (set_at n j found.rank) ≡ true) same at.passes))
-        (subst (λ (j : ℕ). take j held ≡ set_at n j found.rank) same at.shown)
-    go (no p) =
-        let out : to ≤ found.rank = omega arith in
-        let last : found.rank ≡ to = omega (arith, f.most) in
-        rank-none test n k from found.rank to held (omega (arith, last)) f.most out
-        (subst (λ (i : ℕ). RangeClean test n k from i) (sym last)
-        (clean_range test n k from to rises counted (λ i a b. (f.none out).1 k i (le_refl k) (le_refl k) a b (omega arith))))
+module _ (test : List ℕ → Bool) (n k from to : ℕ) (held : List ℕ) (rises : from ≤ to) (counted : to ≤ binom n k) where
+  pub range_found_lem : (found : Found) → FirstFound test n k k from to (Some found) held → FirstRank test n k from to (Some found.rank) held
+  range_found_lem found f =
+      let at = f.1 in
+      let same : found.size ≡ k = omega (arith, at.size_low, at.size_high) in
+      let Sized : ℕ → Type 0 = λ j. ((i : ℕ) → from ≤ i → i < found.rank → test (set_at n j i) ≡ false) in
+      rank-found test n k from found.rank to held at.rank-low f.0 counted
+      (clean_range test n k from found.rank at.rank-low (omega (arith, f.0, counted)) (subst Sized same at.earlier))
+      (sym (subst (λ (j : ℕ). test (set_at n j found.rank) ≡ true) same at.passes))
+      (subst (λ (j : ℕ). take j held ≡ set_at n j found.rank) same at.shown)
+
+  pub range_clean_lem : FirstFound test n k k from to None held → FirstRank test n k from to None held
+  range_clean_lem f =
+      rank-none test n k from to held
+      (clean_range test n k from to rises counted (λ i a b. f k i (le_refl k) (le_refl k) a b (omega arith)))

@@ -5,10 +5,9 @@
 --     all-smaller                     the same from every size in turn
 --     first_of_size                   what is found first in a size
 --     none_found, set_found           the result, where nothing was found and where a set was
---     sizes-told                      what was found, as the verdict asks it
+--     size-told, none-told            what was found, as the verdict asks it
 use Prim.Native.Nat.{ℕ, zero, suc, ◌+◌, ◌-◌, ◌≤◌, ◌<◌, zero-le}
 use native.Mathlib.Nat.{le_refl, not-suc-le-zero}
-use native.Mathlib.Decide.{dec_lt}
 use native.Mathlib.Numerals.{add-one}
 use native.Mathlib.Omega.{arith}
 use mathlib.Core.Path.{◌≡◌, refl, sym, ◌∙◌, ap, ap₂}
@@ -16,6 +15,7 @@ use mathlib.Core.Bool.{Bool, true, false}
 use mathlib.Core.List.{List, [], ◌∷◌, ◌++◌, append_assoc, append-nil}
 use lib.ListN.{length, take}
 use lib.Seq.{take_all}
+use Rattle.std.specs.Prelude.{None, Some}
 use Rattle.basics.specs.Folds.{keep}
 use Rattle.basics.proofs.Folds.{keep_append}
 use Rattle.basics.proofs.Numbers.{from_on}
@@ -25,7 +25,7 @@ use Rattle.revolving.proofs.Rising.{is_set-parts}
 use Rattle.revolving.proofs.Revolving.{revolving-length, set_at-is-set}
 use Rattle.search.specs.declared.Found.{Found}
 use Rattle.search.specs.Search.{searched, stretch, first, FirstSet, FirstFound}
-use Rattle.search.proofs.Keeping.{take_none, drop-none}
+use Rattle.search.proofs.Keeping.{drop-none}
 use Rattle.search.proofs.Ranges.{RangeClean, clean_range, rank-first}
 
 module _ (n : ℕ) where
@@ -72,15 +72,9 @@ module _ (test : List ℕ → Bool) (n : ℕ) where
       go zero sizes whole = refl
       go (suc t) sizes whole = size_clean t (sizes t refl) ∙ whole
 
-  pub none_found : (order size found : ℕ) (held : List ℕ) → found ≡ 0 → order < size → size ≤ order + 1 → SizesClean size
-      → FirstSet test (searched n order) found held
+  pub none_found : (order size : ℕ) (held : List ℕ) → order < size → size ≤ order + 1 → SizesClean size → FirstSet test (searched n order) None held
   unfolding SizesClean
-  none_found order size found held nil low high clean =
-      let none : keep test (searched n order) ≡ [] = clean order (omega arith) in
-      record {
-        size_is = nil ∙ ap (λ (l : List (List ℕ)). length (first l)) (sym none);
-        set_is = ap (λ (i : ℕ). take i held) nil ∙ take_none held ∙ ap first (sym none);
-      }
+  none_found order size held low high clean = clean order (omega arith)
 
   -- the sets of larger sizes come after
   searched_more : (size order : ℕ) → size ≤ order → (more : List (List ℕ)) × (searched n order ≡ searched n size ++ more)
@@ -108,7 +102,7 @@ module _ (test : List ℕ → Bool) (n : ℕ) where
 
   pub set_found : (size order rank : ℕ) (held : List ℕ) → 1 ≤ size → size ≤ order → rank < binom n size → SizesClean size
       → RangeClean test n size 0 rank
-      → true ≡ test (set_at n size rank) → take size held ≡ set_at n size rank → FirstSet test (searched n order) size held
+      → true ≡ test (set_at n size rank) → take size held ≡ set_at n size rank → FirstSet test (searched n order) (Some size) held
   unfolding SizesClean RangeClean
   set_found zero order rank held some h counted sizes ranks e here = absurd (not-suc-le-zero some)
   set_found (suc t) order rank held some h counted sizes ranks e here =
@@ -118,6 +112,7 @@ module _ (test : List ℕ → Bool) (n : ℕ) where
       let found = first_of_size t order set only.0 (sizes t refl) h (ap (keep test) (sym (stretch-all n (suc t) all (le_refl all))) ∙ only.1) in
       let long : length set ≡ suc t = (is_set-parts n (suc t) set (set_at-is-set n (suc t) rank counted)).0 in
       record {
+        some = λ none. let z : ◌≡◌ {A = ℕ} 0 1 = cc in omega (arith, z);
         size_is = sym long ∙ ap (λ (l : List (List ℕ)). length (first l)) (sym found.1);
         set_is = here ∙ ap first (sym found.1);
       }
@@ -131,20 +126,17 @@ module _ (test : List ℕ → Bool) (n : ℕ) where
           let all = binom n k in
           next_size k all before (clean_range test n k 0 all zero-le (le_refl all) (λ i a b. clean k i some less b)) (le_refl all)
 
-  pub sizes-told : (order to : ℕ) (found : Found) (held : List ℕ) → ((k : ℕ) → k ≤ order → binom n k < to) → FirstFound test n 1 order 0 to found held
-      → FirstSet test (searched n order) found.size held
-  sizes-told order to found held counted f = go (dec_lt found.rank to)
-    where
-      go : Dec (found.rank < to) → FirstSet test (searched n order) found.size held
-      go (yes p) =
-          let at = f.some p in
-          let size = found.size in
-          let rank = found.rank in
-          set_found size order rank held at.size_low at.size_high at.rank_in
-          (all-smaller size at.size_low (λ k r a b c. at.smaller k r a b zero-le (omega (arith, c, counted k (omega (arith, b, at.size_high)))) c))
-          (clean_range test n size 0 rank zero-le (omega (arith, at.rank_in)) at.earlier) (sym at.passes) at.shown
-      go (no p) =
-          let out : to ≤ found.rank = omega arith in
-          let none = f.none out in
-          none_found order (order + 1) found.size held none.0 (omega arith) (omega arith)
-          (all-smaller (order + 1) (omega arith) (λ k r a b c. none.1 k r a (omega arith) zero-le (omega (arith, c, counted k (omega arith))) c))
+  module _ (order to : ℕ) (held : List ℕ) (counted : (k : ℕ) → k ≤ order → binom n k < to) where
+    pub size-told : (found : Found) → FirstFound test n 1 order 0 to (Some found) held → FirstSet test (searched n order) (Some found.size) held
+    size-told found f =
+        let at = f.1 in
+        let size = found.size in
+        let rank = found.rank in
+        set_found size order rank held at.size_low at.size_high at.rank_in
+        (all-smaller size at.size_low (λ k r a b c. at.smaller k r a b zero-le (omega (arith, c, counted k (omega (arith, b, at.size_high)))) c))
+        (clean_range test n size 0 rank zero-le (omega (arith, at.rank_in)) at.earlier) (sym at.passes) at.shown
+
+    pub none-told : FirstFound test n 1 order 0 to None held → FirstSet test (searched n order) None held
+    none-told f =
+        none_found order (order + 1) held (omega arith) (omega arith)
+        (all-smaller (order + 1) (omega arith) (λ k r a b c. f k r a (omega arith) zero-le (omega (arith, c, counted k (omega arith))) c))

@@ -10,6 +10,7 @@ use mathlib.Core.Logic.{◌⊎◌, inl, inr}
 use mathlib.Core.Bool.{Bool, true, false}
 use mathlib.Core.List.{List}
 use lib.ListN.{take}
+use Rattle.std.specs.Prelude.{Option, None, Some}
 use Rattle.wires.specs.declared.Notion.{Notion}
 use Rattle.counts.specs.Counts.{binom}
 use Rattle.revolving.specs.Order.{set_at}
@@ -47,22 +48,20 @@ module _ (test : List ℕ → Bool) (n : ℕ) where
             let inside : r < binom n size = subst (λ (j : ℕ). r < binom n j) same c in
             ap (λ (j : ℕ). test (set_at n j r)) same ∙ clean r a (omega (arith, out, all r (omega (arith, inside, counted)) b))
 
-    pub nothing-found : (high size : ℕ) (found : Found) (held : List ℕ) → found.size ≡ 0 → found.rank ≡ to → high < size → Smaller size
+    pub nothing-found : (high size : ℕ) (found : Option Found) (held : List ℕ) → found ≡ None → high < size → Smaller size
         → FirstFound test n low high from to found held
     unfolding Smaller
-    nothing-found high size found held nil last out clean = record {
-      most = omega (arith, last);
-      some = λ less. let z : ⊥ = omega (arith, less, last) in absurd z;
-      none = λ h. (nil, λ k r at_least_lem at_most a b c. clean k r at_least_lem (omega arith) a b c);
-    }
+    nothing-found high size found held nil out clean =
+        subst (λ (f : Option Found). FirstFound test n low high from to f held) (sym nil)
+        (λ k r at_least_lem at_most a b c. clean k r at_least_lem (omega arith) a b c)
 
     pub something_found : (high size rank end count : ℕ) (held : List ℕ) → low ≤ size → size ≤ high → from ≤ rank → rank < end → end ≤ count → count ≡ binom n size
         → end ≤ to → Smaller size → Clean test n size from rank → true ≡ test (set_at n size rank) → take size held ≡ set_at n size rank
-        → FirstFound test n low high from to (record { size = size; rank = rank }) held
+        → FirstFound test n low high from to (Some (record { size = size; rank = rank })) held
     unfolding Smaller Clean
-    something_found high size rank end count held at_least_lem at_most a b few counted c smaller clean e here = record {
-      most = omega arith;
-      some = λ less. record {
+    something_found high size rank end count held at_least_lem at_most a b few counted c smaller clean e here = (
+      omega arith,
+      record {
         size_low = at_least_lem;
         size_high = at_most;
         rank-low = a;
@@ -71,6 +70,5 @@ module _ (test : List ℕ → Bool) (n : ℕ) where
         shown = here;
         smaller = smaller;
         earlier = clean;
-      };
-      none = λ h. let z : ⊥ = omega arith in absurd z;
-    }
+      },
+    )

@@ -14,11 +14,11 @@ use breaking::sum_breaks;
 use counts::count;
 use limits::{COUNTS, RECORD_BYTES};
 use running::{advance, start};
-use runs::{least, pass_over};
+use runs::pass_over;
 use shares::ones::WORDS;
 use wires::Notion;
 
-// A breaking set by its size and rank; no size and the range's end where there is none.
+// A breaking set by its size and rank.
 #[derive(Clone, Copy)]
 pub struct Found {
     pub size: usize,
@@ -37,24 +37,25 @@ pub fn first_breaking(
     to: u64,
     probes: &mut [u16],
     ones: &[u8; WORDS],
-) -> Found
+) -> Option<Found>
     requires counts { Counts counts.now }
     requires table_len_bound { (length table.now ≤ max_table_bytes) × (high ≤ max_size) × (high ≤ length probes.old) × Ones ones.now }
     ensures { FirstFound (is_breaking notion table.now max_shares max_masks) (wire_count table.now) low high from to result probes.new }
 {
     let wires = table.len() / RECORD_BYTES;
-    let mut found = Found { size: 0, rank: to };
+    // kept: the scope has the loops over size and rank left by label (docs/DECISIONS.md)
+    let mut found = None;
     'search: for size in low..=high {
-        let end = least(count(counts, wires, size), to);
+        let end = count(counts, wires, size).min(to);
         let mut tally = start(table, counts, notion, wires, size, from, probes);
         let mut rank = from;
         while rank < end {
             let stand = pass_over(table, notion, wires, size, rank, end, probes, tally, ones);
             if sum_breaks(ones, stand.tally.sum, stand.tally.paid) {
-                found = Found {
+                found = Some(Found {
                     size,
                     rank: stand.rank,
-                };
+                });
                 break 'search;
             }
             rank = stand.rank + 1;
@@ -66,19 +67,19 @@ pub fn first_breaking(
     found
 }
 
-// The size of the first breaking set of up to `order` wires, with the set at the start of `probes`, or 0.
-pub fn first_set(table: &[u8], notion: Notion, order: usize, probes: &mut [u16]) -> usize
+// The size of the first breaking set of up to `order` wires, with the set at the start of `probes`.
+pub fn first_set(table: &[u8], notion: Notion, order: usize, probes: &mut [u16]) -> Option<usize>
     requires { (length table.now ≤ max_table_bytes) × (order ≤ max_size) × (order ≤ length probes.old) }
     ensures { FirstSet (is_breaking notion table.now max_shares max_masks) (searched (wire_count table.now) order) result probes.new }
 {
     // no size has as many sets as the largest number
     let counts = counts::table();
     let ones = shares::ones::table();
-    let found = first_breaking(table, &counts, notion, 1, order, 0, u64::MAX, probes, &ones);
-    found.size
+    let found = first_breaking(table, &counts, notion, 1, order, 0, u64::MAX, probes, &ones)?;
+    Some(found.size)
 }
 
-// The first breaking rank of one size from `from` on, with its set at the start of `probes`; `to` where none up to there breaks.
+// The first breaking rank of one size from `from` up to, without, `to`, with its set at the start of `probes`.
 pub fn first_rank(
     table: &[u8],
     counts: &[u64; COUNTS],
@@ -87,12 +88,12 @@ pub fn first_rank(
     from: u64,
     to: u64,
     probes: &mut [u16],
-) -> u64
+) -> Option<u64>
     requires counts { Counts counts.now }
     requires table_len_bound { (length table.now ≤ max_table_bytes) × (size ≤ max_size) × (size ≤ length probes.old) × (from ≤ to) × (to ≤ binom (wire_count table.now) size) }
     ensures { FirstRank (is_breaking notion table.now max_shares max_masks) (wire_count table.now) size from to result probes.new }
 {
     let ones = shares::ones::table();
-    let found = first_breaking(table, counts, notion, size, size, from, to, probes, &ones);
-    found.rank
+    let found = first_breaking(table, counts, notion, size, size, from, to, probes, &ones)?;
+    Some(found.rank)
 }

@@ -7,22 +7,19 @@ ghost use Rattle.division.specs.Answers.{job_ranks};
 ghost use Rattle.call_answers.specs.Calls.{got, answered, lent_answered};
 ghost use Rattle.call_answers.specs.Meaning.{Kept, CountSays, SetSays, RankSays, JobSays};
 
-use division::JobAnswer;
-use sets::{CountAnswer, RankAnswer, SetAnswer};
-
 // How many sets of `size` out of `wires` wires there are.
 pub fn set_count(wires: usize, size: usize, sets: &mut u64) -> u64
     ensures sets_after { got result (sets.new ∷ []) [] ≡ answered (set_count wires size) (sets.old ∷ []) [] }
     ensures kept { Kept result (sets.new ∷ []) (sets.old ∷ []) [] [] }
     ensures count_says { CountSays result sets.new wires size }
 {
-    let answer = sets::set_count(wires, size);
-    match answer {
-        CountAnswer::Refused(why) => why.number(),
-        CountAnswer::Sets(count) => {
+    // kept: C has a status number and lent numbers, by the contract of `calduvren_set_count`
+    match sets::set_count(wires, size) {
+        Ok(count) => {
             *sets = count;
             0
         }
+        Err(why) => why.number(),
     }
 }
 
@@ -32,10 +29,9 @@ pub fn set_from_rank(wires: usize, size: usize, rank: u64, set: &mut [u16]) -> u
     ensures kept { Kept result [] [] set.new set.old }
     ensures set_says { SetSays result wires size rank set.old set.new }
 {
-    let answer = sets::set_from_rank(wires, size, rank, set);
-    match answer {
-        SetAnswer::Refused(why) => why.number(),
-        SetAnswer::Written => 0,
+    match sets::set_from_rank(wires, size, rank, set) {
+        Ok(()) => 0,
+        Err(why) => why.number(),
     }
 }
 
@@ -45,13 +41,12 @@ pub fn rank_from_set(wires: usize, set: &[u16], rank: &mut u64) -> u64
     ensures kept { Kept result (rank.new ∷ []) (rank.old ∷ []) [] [] }
     ensures rank_says { RankSays result rank.new wires set.now }
 {
-    let answer = sets::rank_from_set(wires, set);
-    match answer {
-        RankAnswer::Refused(why) => why.number(),
-        RankAnswer::Rank(place) => {
+    match sets::rank_from_set(wires, set) {
+        Ok(place) => {
             *rank = place;
             0
         }
+        Err(why) => why.number(),
     }
 }
 
@@ -61,16 +56,12 @@ pub fn job(wires: usize, size: usize, job: u64, jobs: u64, from: &mut u64, to: &
     ensures kept { Kept result (from.new ∷ to.new ∷ []) (from.old ∷ to.old ∷ []) [] [] }
     ensures job_says { JobSays result from.new to.new wires size job jobs }
 {
-    let answer = division::job(wires, size, job, jobs);
-    match answer {
-        JobAnswer::Refused(why) => why.number(),
-        JobAnswer::Ranks {
-            from: first,
-            to: end,
-        } => {
-            *from = first;
-            *to = end;
+    match division::job(wires, size, job, jobs) {
+        Ok(ranks) => {
+            *from = ranks.from;
+            *to = ranks.to;
             0
         }
+        Err(why) => why.number(),
     }
 }

@@ -13,9 +13,7 @@ use Rattle.basics.specs.Told.{values, refusal, turned_down}
 use Rattle.sets.specs.Answers.{refusal_number, count_told, set_told, rank_told, set_count, set_from_rank, rank_from_set}
 use Rattle.sets.specs.declared.Refusal.{Refusal}
 use Rattle.sets.specs.declared.Refusal.TheVariants.{TooManyWires, SizeTooLarge, BufferTooShort, RankTooLarge, NoSuchJob, NotASet}
-use Rattle.sets.specs.declared.CountAnswer.{CountAnswer}
-use Rattle.sets.specs.declared.SetAnswer.{SetAnswer}
-use Rattle.sets.specs.declared.RankAnswer.{RankAnswer}
+use Rattle.std.specs.Prelude.{⊤, Ok, Err}
 use Rattle.sets.specs.Visits.{SetTells}
 use Rattle.revolving.proofs.Revolving.{set_at_wider}
 use Rattle.sets.proofs.Entries.{at_told}
@@ -63,10 +61,10 @@ rank-limits = (refl, refl, refl, refl, refl, refl)
 
 -- the number of each refusal, and what each answer tells
 pub numbers : (map refusal_number (TooManyWires ∷ SizeTooLarge ∷ BufferTooShort ∷ RankTooLarge ∷ NoSuchJob ∷ NotASet ∷ []) ≡ 12 ∷ 17 ∷ 16 ∷ 18 ∷ 19 ∷ 21 ∷ [])
-    × ((n : ℕ) → count_told (CountAnswer.Sets n) ≡ values (n ∷ []))
-    × ((why : Refusal) → count_told (CountAnswer.Refused why) ≡ refusal (refusal_number why))
-    × ((l : List ℕ) → set_told SetAnswer.Written l ≡ record { told = values []; held = l })
-    × ((why : Refusal) (l : List ℕ) → set_told (SetAnswer.Refused why) l ≡ record { told = refusal (refusal_number why); held = l })
-    × ((n : ℕ) → rank_told (RankAnswer.Rank n) ≡ values (n ∷ []))
-    × ((why : Refusal) → rank_told (RankAnswer.Refused why) ≡ refusal (refusal_number why))
-numbers = (refl, λ n. refl, λ why. refl, λ l. refl, λ why l. refl, λ n. refl, λ why. refl)
+    × ((n : ℕ) → count_told (Ok n) ≡ values (n ∷ []))
+    × ((why : Refusal) → count_told (Err why) ≡ refusal (refusal_number why))
+    × ((done : ⊤) (l : List ℕ) → set_told (Ok done) l ≡ record { told = values []; held = l })
+    × ((why : Refusal) (l : List ℕ) → set_told (Err why) l ≡ record { told = refusal (refusal_number why); held = l })
+    × ((n : ℕ) → rank_told (Ok n) ≡ values (n ∷ []))
+    × ((why : Refusal) → rank_told (Err why) ≡ refusal (refusal_number why))
+numbers = (refl, λ n. refl, λ why. refl, λ done l. refl, λ why l. refl, λ n. refl, λ why. refl)

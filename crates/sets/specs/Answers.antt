@@ -3,16 +3,13 @@
 --     refusal_number       the scope's number of each refusal
 --     count_told, set_told, rank_told            what each answer of the code tells
 --     set_count, set_from_rank, rank_from_set      what each entry is to tell
-use Rattle.std.specs.Prelude.{ℕ, cond, ◌&&◌, not, List, [], ◌∷◌, ◌++◌, ltb, leb, length, drop}
+use Rattle.std.specs.Prelude.{ℕ, cond, ◌&&◌, not, ⊤, List, [], ◌∷◌, ◌++◌, ltb, leb, length, drop, Result, Ok, Err}
 use Rattle.limits.specs.Limits.{max_wires, max_size}
 use Rattle.basics.specs.Told.{Told, Lent, values, refusal, turned_down}
 use Rattle.counts.specs.Counts.{binom}
 use Rattle.revolving.specs.Order.{set_at, rank_of, rising, below}
 use Rattle.sets.specs.declared.Refusal.{Refusal}
 use Rattle.sets.specs.declared.Refusal.TheVariants.{TooManyWires, SizeTooLarge, BufferTooShort, RankTooLarge, NoSuchJob, NotASet}
-use Rattle.sets.specs.declared.CountAnswer.{CountAnswer}
-use Rattle.sets.specs.declared.SetAnswer.{SetAnswer}
-use Rattle.sets.specs.declared.RankAnswer.{RankAnswer}
 
 abbrev pub refusal_number : Refusal → ℕ
 refusal_number TooManyWires = 12
@@ -22,17 +19,17 @@ refusal_number RankTooLarge = 18
 refusal_number NoSuchJob = 19
 refusal_number NotASet = 21
 
-abbrev pub count_told : CountAnswer → Told
-count_told (CountAnswer.Sets sets) = values (sets ∷ [])
-count_told (CountAnswer.Refused why) = refusal (refusal_number why)
+abbrev pub count_told : Result ℕ Refusal → Told
+count_told (Ok sets) = values (sets ∷ [])
+count_told (Err why) = refusal (refusal_number why)
 
-abbrev pub set_told : SetAnswer → List ℕ → Lent
-set_told SetAnswer.Written held = record { told = values []; held = held }
-set_told (SetAnswer.Refused why) held = record { told = refusal (refusal_number why); held = held }
+abbrev pub set_told : Result ⊤ Refusal → List ℕ → Lent
+set_told (Ok _) held = record { told = values []; held = held }
+set_told (Err why) held = record { told = refusal (refusal_number why); held = held }
 
-abbrev pub rank_told : RankAnswer → Told
-rank_told (RankAnswer.Rank rank) = values (rank ∷ [])
-rank_told (RankAnswer.Refused why) = refusal (refusal_number why)
+abbrev pub rank_told : Result ℕ Refusal → Told
+rank_told (Ok rank) = values (rank ∷ [])
+rank_told (Err why) = refusal (refusal_number why)
 
 -- a size above the wires has count 0
 abbrev pub set_count : ℕ → ℕ → Told

@@ -3,8 +3,10 @@
 // a refusal alters no lent number.
 #![tactic(auto)]
 
-ghost use Rattle.std.specs.Prelude.{◌≡◌};
+ghost use Rattle.std.specs.Prelude.{◌≡◌, MatchResult};
+ghost use Rattle.basics.specs.Conditions.{First, None};
 ghost use Rattle.sets.specs.Answers.{refusal_number, count_told, set_told, rank_told, set_count, set_from_rank, rank_from_set};
+ghost use Rattle.sets.specs.Conditions.{count_conditions};
 
 use limits::{MAX_SIZE, MAX_WIRES};
 
@@ -35,73 +37,53 @@ impl Refusal {
     }
 }
 
-#[derive(Clone, Copy)]
-pub enum CountAnswer {
-    Sets(u64),
-    Refused(Refusal),
-}
-
-#[derive(Clone, Copy)]
-pub enum SetAnswer {
-    Written,
-    Refused(Refusal),
-}
-
-#[derive(Clone, Copy)]
-pub enum RankAnswer {
-    Rank(u64),
-    Refused(Refusal),
+// What every entry on the sets of a size tests first.
+pub fn within(wires: usize, size: usize) -> Result<(), Refusal>
+    ensures { MatchResult result (λ _. None (count_conditions wires size)) (λ why. First (count_conditions wires size) (refusal_number why)) }
+{
+    if MAX_WIRES < wires {
+        return Err(Refusal::TooManyWires);
+    }
+    if MAX_SIZE < size {
+        return Err(Refusal::SizeTooLarge);
+    }
+    Ok(())
 }
 
 // How many sets of `size` out of `wires` wires there are.
-pub fn set_count(wires: usize, size: usize) -> CountAnswer
+pub fn set_count(wires: usize, size: usize) -> Result<u64, Refusal>
     ensures { count_told result ≡ set_count wires size }
 {
-    if MAX_WIRES < wires {
-        return CountAnswer::Refused(Refusal::TooManyWires);
-    }
-    if MAX_SIZE < size {
-        return CountAnswer::Refused(Refusal::SizeTooLarge);
-    }
+    within(wires, size)?;
     let table = counts::table();
-    CountAnswer::Sets(counts::count(&table, wires, size))
+    Ok(counts::count(&table, wires, size))
 }
 
 // Writes the set at a rank, rising, at the start of `set`.
-pub fn set_from_rank(wires: usize, size: usize, rank: u64, set: &mut [u16]) -> SetAnswer
+pub fn set_from_rank(wires: usize, size: usize, rank: u64, set: &mut [u16]) -> Result<(), Refusal>
     ensures { set_told result set.new ≡ set_from_rank wires size rank set.old }
 {
-    if MAX_WIRES < wires {
-        return SetAnswer::Refused(Refusal::TooManyWires);
-    }
-    if MAX_SIZE < size {
-        return SetAnswer::Refused(Refusal::SizeTooLarge);
-    }
+    within(wires, size)?;
     let table = counts::table();
     let all = counts::count(&table, wires, size);
     if set.len() < size {
-        return SetAnswer::Refused(Refusal::BufferTooShort);
+        return Err(Refusal::BufferTooShort);
     }
     if all <= rank {
-        return SetAnswer::Refused(Refusal::RankTooLarge);
+        return Err(Refusal::RankTooLarge);
     }
     revolving::unrank(&table, wires, size, rank, set);
-    SetAnswer::Written
+    Ok(())
 }
 
 // The rank of a set among the sets of its size.
-pub fn rank_from_set(wires: usize, set: &[u16]) -> RankAnswer
+pub fn rank_from_set(wires: usize, set: &[u16]) -> Result<u64, Refusal>
     ensures { rank_told result ≡ rank_from_set wires set.now }
 {
-    if MAX_WIRES < wires {
-        return RankAnswer::Refused(Refusal::TooManyWires);
-    }
-    if MAX_SIZE < set.len() {
-        return RankAnswer::Refused(Refusal::SizeTooLarge);
-    }
+    within(wires, set.len())?;
     if !revolving::is_rising(wires, set) {
-        return RankAnswer::Refused(Refusal::NotASet);
+        return Err(Refusal::NotASet);
     }
     let table = counts::table();
-    RankAnswer::Rank(revolving::rank(&table, wires, set))
+    Ok(revolving::rank(&table, wires, set))
 }

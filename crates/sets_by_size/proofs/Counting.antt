@@ -1,14 +1,16 @@
 -- The numbers of sets beside the answer.
 --     counts-length, counted-length     there is one for each size up to the order; with the rest, one for each size up to the highest order
 --     counts_at, counted_at, counted-rest     of size k at k - 1; above the order, 0
---     counted_more                      one size more
+--     places                            the places of the sizes up to the order
+--     begun, begun_none, counted_more, counted_all     the sizes so far; none of them; one more; all of them
 use Prim.Native.Nat.{ℕ, zero, suc, ◌+◌, ◌-◌, ◌≤◌, ◌<◌}
 use native.Mathlib.Omega.{arith}
 use mathlib.Core.Path.{◌≡◌, refl, sym, ◌∙◌, ap, ap₂}
 use mathlib.Core.Logic.{◌⊎◌, inl, inr}
-use mathlib.Core.List.{List, [], ◌++◌}
-use lib.ListN.{length, get_or, set, replicate, length-append, length-replicate, get_or-append}
+use mathlib.Core.List.{List, [], ◌++◌, append-nil}
+use lib.ListN.{length, get_or, set, take, drop, replicate, length-append, length-replicate, get_or-append}
 use lib.Seq.{set_at, append_snoc, get_or_at, get_or-append-add}
+use Rattle.std.proofs.lemmas.List.{take-replicate, drop-replicate}
 use Rattle.limits.specs.Limits.{max_order}
 use Rattle.counts.specs.Counts.{binom}
 use Rattle.sets_by_size.specs.Counted.{set_counts, counted}
@@ -51,14 +53,31 @@ module _ (wires : ℕ) where
   counted_at order k h =
       get_or-append (set_counts wires order) (replicate (max_order - order) 0) 0 k (omega (arith, h, counts-length order)) ∙ counts_at order k h
 
-  pub counted_more : (held : List ℕ) (i : ℕ) → i < max_order → held ≡ counted wires i → set held i (binom wires (i + 1)) ≡ counted wires (i + 1)
-  counted_more held i h e =
+  -- the sizes so far, and 0 for those to come
+  abbrev pub begun : ℕ → ℕ → List ℕ
+  begun all i = set_counts wires i ++ replicate (all - i) 0
+
+  pub begun_none : (order : ℕ) → order ≤ max_order → take order (replicate max_order 0) ≡ begun order 0
+  begun_none order h =
+      let all : order ≡ order - 0 = omega arith in
+      take-replicate order max_order 0 h ∙ ap (λ (n : ℕ). replicate n 0) all
+
+  pub counted_more : (all : ℕ) (held : List ℕ) (i : ℕ) → i < all → held ≡ begun all i → set held i (binom wires (i + 1)) ≡ begun all (i + 1)
+  counted_more all held i h e =
       let more : i + 1 ≡ suc i = omega arith in
-      let left : max_order - i ≡ suc (max_order - suc i) = omega (arith, h) in
+      let left : all - i ≡ suc (all - suc i) = omega (arith, h) in
       ap₂ (λ (l : List ℕ) (m : ℕ). set l i (binom wires m)) (e ∙ ap (λ (n : ℕ). set_counts wires i ++ replicate n 0) left) more
-      ∙ set_at (set_counts wires i) 0 (replicate (max_order - suc i) 0) (binom wires (suc i)) i (counts-length i)
-      ∙ sym (append_snoc (set_counts wires i) (binom wires (suc i)) (replicate (max_order - suc i) 0))
-      ∙ ap (counted wires) (sym more)
+      ∙ set_at (set_counts wires i) 0 (replicate (all - suc i) 0) (binom wires (suc i)) i (counts-length i)
+      ∙ sym (append_snoc (set_counts wires i) (binom wires (suc i)) (replicate (all - suc i) 0))
+      ∙ ap (begun all) (sym more)
+
+  pub counted_all : (order : ℕ) (held : List ℕ) → held ≡ begun order order → held ++ drop order (replicate max_order 0) ≡ counted wires order
+  counted_all order held e =
+      let none : order - order ≡ 0 = omega arith in
+      ap₂ {C = List ℕ} ◌++◌ (e ∙ ap (λ (n : ℕ). set_counts wires order ++ replicate n 0) none ∙ append-nil (set_counts wires order)) (drop-replicate order max_order 0)
+
+pub places : (order : ℕ) → order ≤ max_order → length {A = ℕ} (take order (replicate max_order 0)) ≡ order
+places order h = ap (length {A = ℕ}) (take-replicate order max_order 0 h) ∙ length-replicate {A = ℕ} order 0
 
 -- 0 wherever one looks
 pub zeros : (n k : ℕ) → ◌≡◌ {A = ℕ} (get_or (replicate n 0) k 0) 0

@@ -1,9 +1,11 @@
 -- All sets together.
 --     total-whole, total-most     of numbers whose sum has 64 bits the total is the sum; of all others it is the largest number of 64 bits
+--     min_capped     the lesser of a number and the largest of 64 bits
 --     total_more     one number more
 --     total_exact    of what the entry tells, the total is the sum itself: it has 64 bits
-use Prim.Native.Nat.{ℕ, zero, suc, ◌+◌, ◌-◌, ◌*◌, ◌^◌, ◌≤◌, ◌<◌}
+use Prim.Native.Nat.{ℕ, zero, suc, min, ◌+◌, ◌-◌, ◌*◌, ◌^◌, ◌≤◌, ◌<◌}
 use native.Mathlib.Nat.{add_assoc, add-zero, add-suc, zero-add, mul-le-mul, le_refl}
+use native.Mathlib.Decide.{dec_lt}
 use native.Mathlib.Omega.{arith}
 use mathlib.Core.Path.{◌≡◌, refl, sym, ◌∙◌, ap, subst}
 use mathlib.Core.Bool.{Bool, true, false, cond}
@@ -23,6 +25,14 @@ capped-low n h = ap (λ (b : Bool). cond b most n) (le-ltb most n h)
 
 pub capped-high : (n : ℕ) → most < n → capped n ≡ most
 capped-high n h = ap (λ (b : Bool). cond b most n) (lt-ltb most n h)
+
+-- the library's way to say it
+pub min_capped : (n : ℕ) → min n most ≡ capped n
+min_capped n = go (dec_lt most n)
+  where
+    go : Dec (most < n) → min n most ≡ capped n
+    go (yes h) = omega (arith, capped-high n h)
+    go (no h) = omega (arith, capped-low n (omega arith))
 
 capped-sum : (a b : ℕ) → capped (capped a + b) ≡ capped (a + b)
 capped-sum a b = go (ltb most a) refl

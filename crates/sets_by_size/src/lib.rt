@@ -14,8 +14,8 @@ pub fn set_counts(wires: usize, order: usize) -> [u64; MAX_ORDER]
 {
     let table = counts::table();
     let mut sets = [0u64; MAX_ORDER];
-    for i in 0..order {
-        sets[i] = counts::count(&table, wires, i + 1);
+    for (i, place) in sets[..order].iter_mut().enumerate() {
+        *place = counts::count(&table, wires, i + 1);
     }
     sets
 }
@@ -25,27 +25,16 @@ pub fn write_sets(sets: &[u64], buffer: &mut [u64])
     requires { length sets.now ≤ length buffer.old }
     ensures { buffer.new ≡ sets.now ++ drop (length sets.now) buffer.old }
 {
-    for i in 0..sets.len() {
-        buffer[i] = sets[i];
-    }
+    buffer[..sets.len()].copy_from_slice(sets);
 }
 
 // All sets together, or the largest number of 64 bits where there are more.
 pub fn total(sets: &[u64]) -> u64
     ensures { result ≡ total_of sets.now }
 {
-    let mut all = 0;
-    for i in 0..sets.len() {
-        all = sum_or_most(all, sets[i]);
+    let mut all: u64 = 0;
+    for count in sets {
+        all = all.saturating_add(*count);
     }
     all
-}
-
-fn sum_or_most(a: u64, b: u64) -> u64
-    ensures { result ≡ capped (a + b) }
-{
-    if u64::MAX - a < b {
-        return u64::MAX;
-    }
-    a + b
 }

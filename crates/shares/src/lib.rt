@@ -9,7 +9,6 @@ ghost use Rattle.wires.specs.Wires.{count_a, count_b, depends_a, depends_b};
 ghost use Rattle.records.specs.Words.{bit};
 ghost use Rattle.records.specs.Layout.{terms_of};
 
-use records::layout::wide;
 use records::sums::Sum;
 
 pub mod ones;
@@ -59,8 +58,8 @@ pub fn shares_seen(sum: Sum) -> ShareWords
     ensures b_bound { (result.b < 2 ^ max_shares) × ((j : ℕ) → j < max_shares → bit result.b j ≡ depends_b max_shares (terms_of sum) j) }
 {
     ShareWords {
-        a: rows(sum.products) | wide(sum.shares_a),
-        b: columns(sum.products) | wide(sum.shares_b),
+        a: rows(sum.products) | u64::from(sum.shares_a),
+        b: columns(sum.products) | u64::from(sum.shares_b),
     }
 }
 
@@ -70,7 +69,7 @@ pub fn dependence(sum: Sum) -> ShareCounts
 {
     let words = shares_seen(sum);
     ShareCounts {
-        of_a: u64::count_ones(words.a) as usize,
-        of_b: u64::count_ones(words.b) as usize,
+        of_a: words.a.count_ones() as usize,
+        of_b: words.b.count_ones() as usize,
     }
 }

@@ -29,5 +29,5 @@ pub fn count(table: &[u8; WORDS], word: u64) -> usize
     requires { Ones table.now × (word < 2 ^ max_shares) }
     ensures { result ≡ ones word }
 {
-    table[word as usize] as usize
+    usize::from(table[word as usize])
 }

@@ -6,7 +6,7 @@ ghost use Rattle.plan_text.specs.Answers.{check_size};
 ghost use Rattle.call_answers.specs.Calls.{got, size_answered};
 ghost use Rattle.call_answers.specs.Meaning.{Kept, CheckSizeSays};
 
-use plan_text::{SizeAnswer, write_sets};
+use plan_text::write_sets;
 
 // What a check of a text takes: its figures, and the number of sets of each size from 1 to the order at the start of a buffer.
 pub fn check_size(
@@ -23,32 +23,23 @@ pub fn check_size(
     ensures kept { Kept result (order.new ∷ shares.new ∷ masks.new ∷ wires.new ∷ bytes.new ∷ []) (order.old ∷ shares.old ∷ masks.old ∷ wires.old ∷ bytes.old ∷ []) sets.new sets.old }
     ensures check_size_says { CheckSizeSays result order.new shares.new masks.new wires.new bytes.new offset.new offset.old text.now sets.old sets.new }
 {
-    let size = plan_text::check_size(text);
-    let answer = size.answer;
-    let counts = size.sets;
-    match answer {
-        SizeAnswer::Refused { why, offset: place } => {
-            *offset = place;
-            why.number()
-        }
-        SizeAnswer::Size {
-            order: t,
-            shares: s,
-            masks: m,
-            wires: w,
-            bytes: b,
-        } => {
-            if sets.len() < t {
-                let short = sets::Refusal::BufferTooShort;
-                return short.number();
+    // kept: C has a status number and lent numbers, by the contract of `calduvren_check_size`
+    match plan_text::check_size(text) {
+        Ok(size) => {
+            if sets.len() < size.order {
+                return sets::Refusal::BufferTooShort.number();
             }
-            write_sets(&counts[0..t], sets);
-            *order = t;
-            *shares = s;
-            *masks = m;
-            *wires = w;
-            *bytes = b;
+            write_sets(&size.sets[..size.order], sets);
+            *order = size.order;
+            *shares = size.shares;
+            *masks = size.masks;
+            *wires = size.wires;
+            *bytes = size.bytes;
             0
+        }
+        Err(fault) => {
+            *offset = fault.offset;
+            fault.why.number()
         }
     }
 }

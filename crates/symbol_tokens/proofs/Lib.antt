@@ -1,5 +1,3 @@
 -- What the proofs of several functions use.
 --     MaskNames    a mask's name at the start of a run of bytes
---     Shares       symbols of shares
 pub mod MaskNames
-pub mod Shares

@@ -5,7 +5,7 @@ ghost use Rattle.std.specs.Prelude.{◌≡◌, ◌≤◌, length};
 ghost use Rattle.description.specs.Symbols.{mask_at, share_figure, share_of, share_digit, named_read, symbol_read};
 ghost use Rattle.symbol_tokens.specs.Digits.{is_product, is_share};
 
-use description::{MaskName, SymbolAnswer};
+use description::SymbolFault;
 use limits::MAX_MASKS;
 use listing::symbols::name_length;
 use tokens::bytes::{digit_value, is_digit};
@@ -15,34 +15,34 @@ use wires::Symbol;
 const MAX_MASK: usize = MAX_MASKS - 1;
 
 // The mask whose name these bytes begin with: r and a number 0 to 63 without leading zeros.
-pub fn mask_name(bytes: &[u8]) -> MaskName
+pub fn mask_name(bytes: &[u8]) -> Option<usize>
     ensures { result ≡ mask_at bytes.now }
 {
     if bytes.len() < 2 {
-        return MaskName::NoName;
+        return None;
     }
     if bytes[0] != b'r' {
-        return MaskName::NoName;
+        return None;
     }
     let first = bytes[1];
     if !is_digit(first) {
-        return MaskName::NoName;
+        return None;
     }
     if bytes.len() < 3 {
-        return MaskName::Number(digit_value(first));
+        return Some(digit_value(first));
     }
     let second = bytes[2];
     if !is_digit(second) {
-        return MaskName::Number(digit_value(first));
+        return Some(digit_value(first));
     }
     if first == b'0' {
-        return MaskName::NoName;
+        return None;
     }
     let number = 10 * digit_value(first) + digit_value(second);
     if MAX_MASK < number {
-        return MaskName::NoName;
+        return None;
     }
-    MaskName::Number(number)
+    Some(number)
 }
 
 // The share that a byte writes.
@@ -87,50 +87,32 @@ fn is_share(word: &[u8], shares: usize) -> bool
 }
 
 // What a run of bytes is if it is no product and no share: a declared mask, one that is not, or nothing.
-fn mask_of(word: &[u8], declared: u64) -> SymbolAnswer
+fn mask_of(word: &[u8], declared: u64) -> Result<Symbol, SymbolFault>
     ensures { result ≡ named_read declared (length word.now) (mask_at word.now) }
 {
-    let name = mask_name(word);
-    match name {
-        MaskName::NoName => SymbolAnswer::NoSuch,
-        MaskName::Number(mask) => {
-            if word.len() != name_length(mask) {
-                return SymbolAnswer::NoSuch;
-            }
-            if (declared >> mask) % 2 == 1 {
-                return SymbolAnswer::Known(Symbol::Mask(mask));
-            }
-            SymbolAnswer::NotDeclared
-        }
+    let mask = mask_name(word).ok_or(SymbolFault::NoSuch)?;
+    if word.len() != name_length(mask) {
+        return Err(SymbolFault::NoSuch);
     }
+    if (declared >> mask) % 2 == 1 {
+        return Ok(Symbol::Mask(mask));
+    }
+    Err(SymbolFault::NotDeclared)
 }
 
 // What a run of bytes is.
-pub fn symbol_of(word: &[u8], shares: usize, declared: u64) -> SymbolAnswer
+pub fn symbol_of(word: &[u8], shares: usize, declared: u64) -> Result<Symbol, SymbolFault>
     requires { 1 ≤ length word.now }
     ensures { result ≡ symbol_read shares declared word.now }
 {
-    let letter = word[0];
-    if letter == b's' {
-        if is_product(word, shares) {
-            return SymbolAnswer::Known(Symbol::Product(
-                share_number(word[1]),
-                share_number(word[2]),
-            ));
-        }
-        return SymbolAnswer::NoSuch;
+    match word[0] {
+        b's' if is_product(word, shares) => Ok(Symbol::Product(
+            share_number(word[1]),
+            share_number(word[2]),
+        )),
+        b'a' if is_share(word, shares) => Ok(Symbol::ShareA(share_number(word[1]))),
+        b'b' if is_share(word, shares) => Ok(Symbol::ShareB(share_number(word[1]))),
+        b's' | b'a' | b'b' => Err(SymbolFault::NoSuch),
+        _ => mask_of(word, declared),
     }
-    if letter == b'a' {
-        if is_share(word, shares) {
-            return SymbolAnswer::Known(Symbol::ShareA(share_number(word[1])));
-        }
-        return SymbolAnswer::NoSuch;
-    }
-    if letter == b'b' {
-        if is_share(word, shares) {
-            return SymbolAnswer::Known(Symbol::ShareB(share_number(word[1])));
-        }
-        return SymbolAnswer::NoSuch;
-    }
-    mask_of(word, declared)
 }

@@ -16,6 +16,7 @@ use mathlib.Core.List.{List, [], ◌∷◌, map}
 use borrow.Author.Tests.{le-leb, lt-leb, le-ltb, lt-ltb, ltb-true, eq-eqb}
 use lib.ListN.{length}
 use lib.Dec.{ltb, leb}
+use Rattle.std.specs.Prelude.{Result, Ok, Err}
 use Rattle.limits.specs.Limits.{min_shares, max_shares, max_masks, record_bytes, max_table_bytes}
 use Rattle.basics.specs.Folds.{some, every, keep, one_if, up_to}
 use Rattle.basics.specs.Told.{Told, values, refusal}
@@ -32,7 +33,6 @@ use Rattle.record_tests.specs.Cut.{FirstShares}
 use Rattle.table.proofs.Conditions.{Sound, accepted_exactly, tested-answer, tested-refusal, function_chain, function_settled}
 use Rattle.table.specs.declared.Refusal.{Refusal}
 use Rattle.table.specs.declared.Refusal.TheVariants.{NoSuchFunction}
-use Rattle.table.specs.declared.FunctionAnswer.{FunctionAnswer}
 use Rattle.table.specs.Answers.{refusal_number, function_told, wrong_record, table_check, function_check, FunctionMeans}
 
 module _ (table : List ℕ) (shares masks : ℕ) where
@@ -147,7 +147,7 @@ one-or-none false false e = refl
 one-or-none true false e = let z : ◌≡◌ {A = ℕ} 1 0 = cc in absurd (omega (arith, z))
 one-or-none false true e = let z : ◌≡◌ {A = ℕ} 0 1 = cc in absurd (omega (arith, z))
 
-pub function_means : (answer : FunctionAnswer) (table : List ℕ) (shares masks function : ℕ)
+pub function_means : (answer : Result Bool Refusal) (table : List ℕ) (shares masks function : ℕ)
     → function_told answer ≡ function_check table shares masks function
     → FunctionMeans answer table shares masks function
 function_means answer table shares masks function e =
@@ -163,36 +163,40 @@ function_means answer table shares masks function e =
 
 -- ---- the entry's answers, each with the whole of its promise
 
-abbrev pub Promise : FunctionAnswer → List ℕ → ℕ → ℕ → ℕ → Type 0
+abbrev pub Promise : Result Bool Refusal → List ℕ → ℕ → ℕ → ℕ → Type 0
 Promise answer table shares masks function =
     (function_told answer ≡ function_check table shares masks function) × FunctionMeans answer table shares masks function
 
 module _ (table : List ℕ) (shares masks function : ℕ) where
-  promised : (answer : FunctionAnswer) → function_told answer ≡ function_check table shares masks function → Promise answer table shares masks function
+  promised : (answer : Result Bool Refusal) → function_told answer ≡ function_check table shares masks function → Promise answer table shares masks function
   promised answer e = (e, function_means answer table shares masks function e)
 
   abbrev rest : Told
   rest = cond (not (leb 1 function && leb function 3)) (refusal 20) (values (one_if (computes function shares masks (wires table)) ∷ []))
 
   pub refused-before : (why : Refusal) → refusal (refusal_number why) ≡ table_check table shares masks
-      → Promise (FunctionAnswer.Refused why) table shares masks function
-  refused-before why e = promised (FunctionAnswer.Refused why) (sym (tested-refusal table shares masks refusal rest (refusal_number why) e))
+      → Promise (Err why) table shares masks function
+  refused-before why e = promised (Err why) (sym (tested-refusal table shares masks refusal rest (refusal_number why) e))
 
   module _ (ok : values [] ≡ table_check table shares masks) where
     own : function_check table shares masks function ≡ rest
     own = tested-answer table shares masks refusal rest ((accepted_exactly table shares masks).0 ok)
 
-    pub function-low : function < 1 → Promise (FunctionAnswer.Refused NoSuchFunction) table shares masks function
-    function-low h = promised (FunctionAnswer.Refused NoSuchFunction) (sym (own ∙ simp (lt-leb 1 function h)))
+    pub function-low : function < 1 → Promise (Err NoSuchFunction) table shares masks function
+    function-low h = promised (Err NoSuchFunction) (sym (own ∙ simp (lt-leb 1 function h)))
 
-    pub function-high : 1 ≤ function → 3 < function → Promise (FunctionAnswer.Refused NoSuchFunction) table shares masks function
-    function-high l h = promised (FunctionAnswer.Refused NoSuchFunction) (sym (own ∙ simp (le-leb 1 function l, lt-leb function 3 h)))
+    pub function-high : 1 ≤ function → 3 < function → Promise (Err NoSuchFunction) table shares masks function
+    function-high l h = promised (Err NoSuchFunction) (sym (own ∙ simp (le-leb 1 function l, lt-leb function 3 h)))
 
-    pub answered : (answer : FunctionAnswer) (x y : Bool) (s t u : Terms) → function_told answer ≡ values (one_if y ∷ []) → 1 ≤ function → function ≤ 3
-        → s ≡ total (outers (wires table)) → FirstShares shares (function_terms function) t → u ≡ plus s t → x ≡ blank max_shares max_masks u → x ≡ y
-        → Promise answer table shares masks function
-    answered answer x y s t u told l h es ft eu ex e =
-        let c : y ≡ computes function shares masks (wires table) =
-        sym e ∙ ex ∙ ap (blank max_shares max_masks) (eu ∙ ap (λ (v : Terms). plus v t) es)
+    pub answered : (x : Bool) (s t u : Terms) → 1 ≤ function → function ≤ 3
+        → s ≡ total (outers (wires table)) → FirstShares shares (function_terms function) t → u ≡ plus s t → x ≡ blank max_shares max_masks u
+        → Promise (Ok x) table shares masks function
+    answered x s t u l h es ft eu ex =
+        let c : x ≡ computes function shares masks (wires table) =
+        ex ∙ ap (blank max_shares max_masks) (eu ∙ ap (λ (v : Terms). plus v t) es)
         ∙ function_decided table shares masks function t ((accepted_exactly table shares masks).0 ok) ft in
-        promised answer (told ∙ sym (own ∙ simp (le-leb 1 function l, le-leb function 3 h, c)))
+        promised (Ok x) (told_bit x ∙ sym (own ∙ simp (le-leb 1 function l, le-leb function 3 h, c)))
+      where
+        told_bit : (b : Bool) → function_told (Ok b) ≡ values (one_if b ∷ [])
+        told_bit true = refl
+        told_bit false = refl

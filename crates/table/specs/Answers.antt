@@ -5,7 +5,7 @@
 --     tested                        the three tests, then what the operation itself answers
 --     table_check, function_check     what each entry is to tell
 --     FunctionMeans                 what yes and no say of the values of the outer wires
-use Rattle.std.specs.Prelude.{ℕ, ◌%◌, ◌≡◌, Bool, cond, not, ◌&&◌, ◌||◌, List, [], ◌∷◌, ltb, leb, eqb, length}
+use Rattle.std.specs.Prelude.{ℕ, ◌%◌, ◌≡◌, Bool, true, false, cond, not, ◌&&◌, ◌||◌, List, [], ◌∷◌, ltb, leb, eqb, length, Result, Ok, Err}
 use Rattle.limits.specs.Limits.{min_shares, max_shares, max_masks, record_bytes, max_table_bytes}
 use Rattle.basics.specs.Folds.{some, one_if, up_to}
 use Rattle.basics.specs.Told.{Told, values, refusal}
@@ -14,8 +14,6 @@ use Rattle.wires.specs.Function.{AddUpTo, computes}
 use Rattle.records.specs.Layout.{decode, kind_of, record_at, wire_count, wires}
 use Rattle.table.specs.declared.Refusal.{Refusal}
 use Rattle.table.specs.declared.Refusal.TheVariants.{SharesOrMasks, TableLength, RecordOutOfRange, NoSuchFunction}
-use Rattle.table.specs.declared.TableAnswer.{TableAnswer}
-use Rattle.table.specs.declared.FunctionAnswer.{FunctionAnswer}
 
 abbrev pub refusal_number : Refusal → ℕ
 refusal_number SharesOrMasks = 11
@@ -23,15 +21,15 @@ refusal_number TableLength = 12
 refusal_number RecordOutOfRange = 13
 refusal_number NoSuchFunction = 20
 
-abbrev pub table_told : TableAnswer → Told
-table_told TableAnswer.Accepted = values []
-table_told (TableAnswer.Refused why) = refusal (refusal_number why)
+abbrev pub table_told : Result (Unit {0}) Refusal → Told
+table_told (Ok done) = values []
+table_told (Err why) = refusal (refusal_number why)
 
 -- yes is 1, no is 0
-abbrev pub function_told : FunctionAnswer → Told
-function_told FunctionAnswer.Yes = values (1 ∷ [])
-function_told FunctionAnswer.No = values (0 ∷ [])
-function_told (FunctionAnswer.Refused why) = refusal (refusal_number why)
+abbrev pub function_told : Result Bool Refusal → Told
+function_told (Ok true) = values (1 ∷ [])
+function_told (Ok false) = values (0 ∷ [])
+function_told (Err why) = refusal (refusal_number why)
 
 -- 11, shares not 2 to 8 or masks over 64
 abbrev pub wrong_shares : ℕ → ℕ → Bool
@@ -63,6 +61,6 @@ function_check table shares masks function =
     (values (one_if (computes function shares masks (wires table)) ∷ [])))
 
 -- yes: for every input and every mask setting the outer wires' values add up to the function; no: not for every one
-pub record FunctionMeans (answer : FunctionAnswer) (table : List ℕ) (shares masks function : ℕ) : Type 0 where
-  pub yes_means : answer ≡ FunctionAnswer.Yes → AddUpTo function shares masks (wires table)
-  pub no_means : answer ≡ FunctionAnswer.No → AddUpTo function shares masks (wires table) → ⊥
+pub record FunctionMeans (answer : Result Bool Refusal) (table : List ℕ) (shares masks function : ℕ) : Type 0 where
+  pub yes_means : answer ≡ Ok true → AddUpTo function shares masks (wires table)
+  pub no_means : answer ≡ Ok false → AddUpTo function shares masks (wires table) → ⊥

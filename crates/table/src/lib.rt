@@ -35,65 +35,50 @@ impl Refusal {
     }
 }
 
-#[derive(Clone, Copy)]
-pub enum TableAnswer {
-    Accepted,
-    Refused(Refusal),
-}
-
-#[derive(Clone, Copy)]
-pub enum FunctionAnswer {
-    Yes,
-    No,
-    Refused(Refusal),
-}
-
 // The tests that every operation on a table makes first.
-pub fn table_check(table: &[u8], shares: usize, masks: usize) -> TableAnswer
+pub fn table_check(table: &[u8], shares: usize, masks: usize) -> Result<(), Refusal>
     ensures { table_told result ≡ table_check table.now shares masks }
 {
     if shares < MIN_SHARES {
-        return TableAnswer::Refused(Refusal::SharesOrMasks);
+        return Err(Refusal::SharesOrMasks);
     }
     if MAX_SHARES < shares {
-        return TableAnswer::Refused(Refusal::SharesOrMasks);
+        return Err(Refusal::SharesOrMasks);
     }
     if MAX_MASKS < masks {
-        return TableAnswer::Refused(Refusal::SharesOrMasks);
+        return Err(Refusal::SharesOrMasks);
     }
     if table.len() % RECORD_BYTES != 0 {
-        return TableAnswer::Refused(Refusal::TableLength);
+        return Err(Refusal::TableLength);
     }
     if MAX_TABLE_BYTES < table.len() {
-        return TableAnswer::Refused(Refusal::TableLength);
+        return Err(Refusal::TableLength);
     }
     if !tests::records_fit(table, shares, masks) {
-        return TableAnswer::Refused(Refusal::RecordOutOfRange);
+        return Err(Refusal::RecordOutOfRange);
     }
-    TableAnswer::Accepted
+    Ok(())
 }
 
 // Whether the outer wires add up, for every share and mask value, to 1, the product of the two operands; 2, their sum; 3, operand a.
-pub fn function_check(table: &[u8], shares: usize, masks: usize, function: usize) -> FunctionAnswer
+pub fn function_check(
+    table: &[u8],
+    shares: usize,
+    masks: usize,
+    function: usize,
+) -> Result<bool, Refusal>
     ensures result_value { function_told result ≡ function_check table.now shares masks function }
     ensures function_means { FunctionMeans result table.now shares masks function }
 {
-    let tested = table_check(table, shares, masks);
-    match tested {
-        TableAnswer::Refused(why) => FunctionAnswer::Refused(why),
-        TableAnswer::Accepted => {
-            if function < 1 {
-                return FunctionAnswer::Refused(Refusal::NoSuchFunction);
-            }
-            if 3 < function {
-                return FunctionAnswer::Refused(Refusal::NoSuchFunction);
-            }
-            let outers = sums::sum_of_outers(table);
-            let rest = sums::added(outers, functions::function_record(shares, function));
-            if functions::is_blank(rest) {
-                return FunctionAnswer::Yes;
-            }
-            FunctionAnswer::No
-        }
+    table_check(table, shares, masks)?;
+    // kept: the numbers 1 to 3 come from C (calduvren::calduvren_function_check)
+    if function < 1 {
+        return Err(Refusal::NoSuchFunction);
     }
+    if 3 < function {
+        return Err(Refusal::NoSuchFunction);
+    }
+    let outers = sums::sum_of_outers(table);
+    let rest = sums::added(outers, functions::function_record(shares, function));
+    Ok(functions::is_blank(rest))
 }

@@ -25,12 +25,10 @@ pub fn records_fit(table: &[u8], shares: usize, masks: usize) -> bool
     ensures { result ≡ not (some (λ w. wrong_record shares masks (record_at table.now w)) (up_to (wire_count table.now))) }
 {
     let count = table.len() / RECORD_BYTES;
-    let mut wire = 0;
-    while wire < count {
+    for wire in 0..count {
         if !record_fits(table, wire, shares, masks) {
             return false;
         }
-        wire += 1;
     }
     true
 }

@@ -2,16 +2,15 @@
 #![tactic(auto)]
 
 ghost use Rattle.std.specs.Prelude.{◌≡◌, [], ◌∷◌};
-ghost use Rattle.basics.specs.Folds.{one_if};
 ghost use Rattle.table.specs.Answers.{function_check};
 ghost use Rattle.verdict_answers.specs.Answers.{range_check, set_dependence};
 ghost use Rattle.call_answers.specs.Calls.{got, answered, lent_judged};
 ghost use Rattle.call_answers.specs.Meaning.{Kept, FunctionSays, RangeShows, DependenceSays};
 
-use table::FunctionAnswer;
-use verdict_answers::{DependenceAnswer, RangeAnswer};
+use verdict_answers::Checked;
 
 // Whether the outer wires add up to a function.
+// kept: a status and lent numbers, and 1 and 0 in them, are what C gets (calduvren::calduvren_function_check and the two below)
 pub fn function_check(
     table: &[u8],
     shares: usize,
@@ -23,17 +22,12 @@ pub fn function_check(
     ensures kept { Kept result (yes.new ∷ []) (yes.old ∷ []) [] [] }
     ensures function_says { FunctionSays result yes.new table.now shares masks function }
 {
-    let answer = table::function_check(table, shares, masks, function);
-    match answer {
-        FunctionAnswer::Refused(why) => why.number(),
-        FunctionAnswer::Yes => {
-            *yes = 1;
+    match table::function_check(table, shares, masks, function) {
+        Ok(adds) => {
+            *yes = u64::from(adds);
             0
         }
-        FunctionAnswer::No => {
-            *yes = 0;
-            0
-        }
+        Err(why) => why.number(),
     }
 }
 
@@ -55,22 +49,23 @@ pub fn range_check(
     ensures kept { Kept result (clean.new ∷ found.new ∷ rank.new ∷ []) (clean.old ∷ found.old ∷ rank.old ∷ []) set.new set.old }
     ensures range_shows { RangeShows result clean.new found.new rank.new table.now shares masks notion size from to set.old set.new }
 {
-    let answer = verdict::range_check(table, shares, masks, notion, size, from, to, set);
-    match answer {
-        RangeAnswer::Refused(why) => why.number(),
-        RangeAnswer::Clean => {
+    match verdict::range_check(table, shares, masks, notion, size, from, to, set) {
+        Ok(Checked::Clean) => {
             *clean = 1;
             0
         }
-        RangeAnswer::Found {
-            size: wires,
-            rank: place,
-        } => {
+        Ok(
+            Checked::Found {
+                size: wires,
+                rank: place,
+            },
+        ) => {
             *clean = 0;
             *found = wires;
             *rank = place;
             0
         }
+        Err(why) => why.number(),
     }
 }
 
@@ -90,29 +85,14 @@ pub fn set_dependence(
     ensures kept { Kept result (of_a.new ∷ of_b.new ∷ allowed.new ∷ masked.new ∷ []) (of_a.old ∷ of_b.old ∷ allowed.old ∷ masked.old ∷ []) [] [] }
     ensures dependence_says { DependenceSays result of_a.new of_b.new allowed.new masked.new table.now shares masks notion set.now }
 {
-    let answer = verdict::set_dependence(table, shares, masks, notion, set);
-    match answer {
-        DependenceAnswer::Refused(why) => why.number(),
-        DependenceAnswer::Depends {
-            of_a: a,
-            of_b: b,
-            allowed: most,
-            masked: left,
-        } => {
-            *of_a = a;
-            *of_b = b;
-            *allowed = most;
-            *masked = one_if(left);
+    match verdict::set_dependence(table, shares, masks, notion, set) {
+        Ok(on) => {
+            *of_a = on.of_a;
+            *of_b = on.of_b;
+            *allowed = on.allowed;
+            *masked = u64::from(on.masked);
             0
         }
+        Err(why) => why.number(),
     }
-}
-
-fn one_if(bit: bool) -> u64
-    ensures { result ≡ one_if bit }
-{
-    if bit {
-        return 1;
-    }
-    0
 }

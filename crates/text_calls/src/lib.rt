@@ -6,8 +6,6 @@ ghost use Rattle.reader.specs.Answers.{read_text, part_check};
 ghost use Rattle.call_answers.specs.Calls.{got, answered, lent_read};
 ghost use Rattle.call_answers.specs.Meaning.{Kept, ReadSays, PartSays};
 
-use reader::{PartAnswer, ReadAnswer};
-
 // Reads a text into the wires that its grammar gives.
 pub fn read_text(
     text: &[u8],
@@ -22,23 +20,18 @@ pub fn read_text(
     ensures kept { Kept result (order.new ∷ shares.new ∷ masks.new ∷ wires.new ∷ []) (order.old ∷ shares.old ∷ masks.old ∷ wires.old ∷ []) table.new table.old }
     ensures read_says { ReadSays result order.new shares.new masks.new wires.new text.now table.old table.new }
 {
-    let answer = reader::read_text(text, table);
-    match answer {
-        ReadAnswer::Refused { why, offset: fault } => {
-            *offset = fault;
-            why.number()
-        }
-        ReadAnswer::Read {
-            order: t,
-            shares: n,
-            masks: m,
-            wires: w,
-        } => {
-            *order = t;
-            *shares = n;
-            *masks = m;
-            *wires = w;
+    // kept: C has a status number and lent numbers, by the contract of `calduvren_read_text`
+    match reader::read_text(text, table) {
+        Ok(read) => {
+            *order = read.order;
+            *shares = read.shares;
+            *masks = read.masks;
+            *wires = read.wires;
             0
+        }
+        Err(fault) => {
+            *offset = fault.offset;
+            fault.why.number()
         }
     }
 }
@@ -55,16 +48,12 @@ pub fn text_part(
     ensures kept { Kept result (offset.new ∷ length.new ∷ []) (offset.old ∷ length.old ∷ []) [] [] }
     ensures part_says { PartSays result offset.new length.new text.now table.now wire }
 {
-    let answer = reader::text_part_check(text, table, wire);
-    match answer {
-        PartAnswer::Refused(why) => why.number(),
-        PartAnswer::Part {
-            offset: start,
-            length: bytes,
-        } => {
-            *offset = start;
-            *length = bytes;
+    match reader::text_part_check(text, table, wire) {
+        Ok(part) => {
+            *offset = part.offset;
+            *length = part.length;
             0
         }
+        Err(why) => why.number(),
     }
 }

@@ -2,7 +2,7 @@
 // the table's length, the lower first.
 #![tactic(auto)]
 
-ghost use Rattle.std.specs.Prelude.{◌≡◌, ◌≤◌, ◌<◌, length, IfOk};
+ghost use Rattle.std.specs.Prelude.{◌≤◌, length, IfOk};
 
 use std::io;
 use std::io::{ErrorKind, Read};
@@ -29,13 +29,6 @@ pub fn read_full(reader: &mut impl Read, buffer: &mut [u8]) -> io::Result<usize>
     Ok(end)
 }
 
-// A byte as a number.
-pub fn wide(x: u8) -> usize
-    ensures { (result ≡ x) × (result < 256) }
-{
-    x as usize
-}
-
 // Where the case that starts at `at` ends, or `at` where no whole case is left.
 pub fn case_end(cases: &[u8], at: usize, head: usize) -> usize
     requires { (at ≤ length cases.now) × (2 ≤ head) × (head ≤ 16) }
@@ -45,7 +38,7 @@ pub fn case_end(cases: &[u8], at: usize, head: usize) -> usize
         return at;
     }
     let start = at + head;
-    let length = wide(cases[start - 2]) + 256 * wide(cases[start - 1]);
+    let length = usize::from(u16::from_le_bytes([cases[start - 2], cases[start - 1]]));
     if cases.len() - start < length {
         return at;
     }

@@ -7,9 +7,8 @@
 ghost use Rattle.std.specs.Prelude.{◌≡◌, ◌<◌, ◌≤◌, length};
 
 use limits::RECORD_BYTES;
-use reader::{PartAnswer, ReadAnswer};
 use std::io;
-use try_cases::{case_end, read_full, wide};
+use try_cases::{case_end, read_full};
 
 const INPUT_BYTES: usize = 524288;
 
@@ -50,9 +49,15 @@ fn each(rt: &impl Print, cases: &[u8]) -> io::Result<()> {
     let mut at = 0;
     let mut end = case_end(cases, 0, HEAD);
     while HEAD <= end - at {
-        let lent = pair(cases[at + 1], cases[at + 2]);
-        let size = pair(cases[at + 3], cases[at + 4]);
-        tell(rt, cases[at], lent, size, &cases[at + HEAD..end])?;
+        let lent = u16::from_le_bytes([cases[at + 1], cases[at + 2]]);
+        let size = u16::from_le_bytes([cases[at + 3], cases[at + 4]]);
+        tell(
+            rt,
+            cases[at],
+            usize::from(lent),
+            usize::from(size),
+            &cases[at + HEAD..end],
+        )?;
         at = end;
         end = case_end(cases, at, HEAD);
     }
@@ -67,82 +72,39 @@ fn tell(rt: &impl Print, kind: u8, lent: usize, size: usize, rest: &[u8]) -> io:
     }
 }
 
-// A number of two bytes.
-fn pair(low: u8, high: u8) -> usize
-    ensures { result < 65536 }
-{
-    wide(low) + 256 * wide(high)
-}
-
-// A number of eight bytes.
-fn eight(bytes: &[u8]) -> usize
-    requires { length bytes.now ≡ 8 }
-{
-    let low = pair(bytes[0], bytes[1]) + 65536 * pair(bytes[2], bytes[3]);
-    let high = pair(bytes[4], bytes[5]) + 65536 * pair(bytes[6], bytes[7]);
-    low + 4294967296 * high
-}
-
-fn least(m: usize, n: usize) -> usize
-    ensures { (result ≤ m) × (result ≤ n) }
-{
-    if m < n {
-        return m;
-    }
-    n
-}
-
-// Words, a space and a number.
-fn number(rt: &impl Print, words: &str, n: usize) -> io::Result<()> {
-    print!(rt; "{words} {n}")
-}
-
 // A reading of a text, spaces put after its start up to its size.
 fn tell_reading(rt: &impl Print, start: &[u8], size: usize, lent: usize) -> io::Result<()> {
     let mut text = [b' '; TEXT_ROOM];
     let mut table = [0u8; TABLE_ROOM];
-    copy(start, &mut text);
+    let count = start.len().min(TEXT_ROOM);
+    text[..count].copy_from_slice(&start[..count]);
     pattern(&mut table);
-    let text_end = least(size, TEXT_ROOM);
-    let table_end = least(lent, TABLE_ROOM);
-    ask_reading(rt, &text[0..text_end], &mut table[0..table_end])
-}
-
-fn copy(from: &[u8], to: &mut [u8]) {
-    let count = least(from.len(), to.len());
-    for i in 0..count {
-        to[i] = from[i];
-    }
+    let text_end = size.min(TEXT_ROOM);
+    let table_end = lent.min(TABLE_ROOM);
+    ask_reading(rt, &text[..text_end], &mut table[..table_end])
 }
 
 fn pattern(table: &mut [u8]) {
     let mut byte = PATTERN_START;
-    for i in 0..table.len() {
-        table[i] = byte;
+    for place in table.iter_mut() {
+        *place = byte;
         byte = byte.wrapping_add(PATTERN_STEP);
     }
 }
 
 // The answer, and the checksum of the whole lent table.
 fn ask_reading(rt: &impl Print, text: &[u8], table: &mut [u8]) -> io::Result<()> {
-    let answer = reader::read_text(text, table);
-    match answer {
-        ReadAnswer::Read {
-            order,
-            shares,
-            masks,
-            wires,
-        } => {
-            number(rt, "order", order)?;
-            number(rt, " shares", shares)?;
-            number(rt, " masks", masks)?;
-            number(rt, " wires", wires)?;
-            let records = least(wires, table.len() / RECORD_BYTES);
-            parts(rt, text, &table[0..RECORD_BYTES * records], wires)?;
+    match reader::read_text(text, table) {
+        Ok(read) => {
+            print!(rt;
+                "order {} shares {} masks {} wires {}",
+                read.order, read.shares, read.masks, read.wires
+            )?;
+            let records = read.wires.min(table.len() / RECORD_BYTES);
+            parts(rt, text, &table[..RECORD_BYTES * records], read.wires)?;
         }
-        ReadAnswer::Refused { why, offset } => {
-            refused(rt, why.number())?;
-            number(rt, " at", offset)?;
+        Err(fault) => {
+            print!(rt; "refused {} at {}", fault.why.number(), fault.offset)?;
         }
     }
     let sum = checksum(0, table);
@@ -158,18 +120,14 @@ fn parts(rt: &impl Print, text: &[u8], table: &[u8], wires: usize) -> io::Result
     print!(rt; " parts {total}")
 }
 
-fn refused(rt: &impl Print, why: u64) -> io::Result<()> {
-    print!(rt; "refused {why}")
-}
-
 // A polynomial of the bytes, modulo a prime, that goes on from a total.
 fn checksum(before: u64, bytes: &[u8]) -> u64
     requires { before < 4294967291 }
     ensures { result < 4294967291 }
 {
     let mut total = before;
-    for i in 0..bytes.len() {
-        total = with_byte(total, bytes[i]);
+    for byte in bytes {
+        total = with_byte(total, *byte);
     }
     total
 }
@@ -178,7 +136,7 @@ fn with_byte(total: u64, byte: u8) -> u64
     requires { total < 4294967291 }
     ensures { result < 4294967291 }
 {
-    (total * FACTOR + byte as u64 + 1) % PRIME
+    (total * FACTOR + u64::from(byte) + 1) % PRIME
 }
 
 // The part of the text that a wire's record names.
@@ -186,28 +144,19 @@ fn tell_part(rt: &impl Print, rest: &[u8], size: usize) -> io::Result<()> {
     if rest.len() < WIRE_BYTES {
         return Ok(());
     }
-    let table_start = WIRE_BYTES + least(size, rest.len() - WIRE_BYTES);
-    let wire = eight(&rest[0..WIRE_BYTES]);
-    ask_part(
-        rt,
-        &rest[WIRE_BYTES..table_start],
-        &rest[table_start..],
-        wire,
-    )
+    let (number, rest) = rest.split_at(WIRE_BYTES);
+    let (text, table) = rest.split_at(size.min(rest.len()));
+    let mut wire = [0u8; WIRE_BYTES];
+    wire.copy_from_slice(number);
+    ask_part(rt, text, table, usize::from_le_bytes(wire))
 }
 
 // The check's answer, and the length and the checksum of the part itself.
 fn ask_part(rt: &impl Print, text: &[u8], table: &[u8], wire: usize) -> io::Result<()> {
-    let answer = reader::text_part_check(text, table, wire);
-    match answer {
-        PartAnswer::Part { offset, length } => {
-            number(rt, "part at", offset)?;
-            number(rt, " length", length)?;
-        }
-        PartAnswer::Refused(why) => refused(rt, why.number())?,
+    match reader::text_part_check(text, table, wire) {
+        Ok(part) => print!(rt; "part at {} length {}", part.offset, part.length)?,
+        Err(why) => print!(rt; "refused {}", why.number())?,
     }
     let part = reader::text_part(text, table, wire);
-    number(rt, " bytes", part.len())?;
-    let sum = checksum(0, part);
-    println!(rt; " sum {sum}")
+    println!(rt; " bytes {} sum {}", part.len(), checksum(0, part))
 }

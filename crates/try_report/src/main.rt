@@ -2,14 +2,12 @@
 // `tests/try_report.py` writes the files, and works the output out from the scope.
 #![tactic(auto)]
 
-ghost use Rattle.std.specs.Prelude.{◌≤◌};
-
 use console::input::INPUT_BYTES;
-use console::lines;
-use report_text::{MAX_REPORT, ReportAnswer};
+use report_text::MAX_REPORT;
 use std::fs::File;
 use std::io;
 use std::rt::Files;
+use tokens::bytes::LINE_END;
 use try_cases::read_full;
 
 const INDEX_BYTES: usize = 16384;
@@ -19,7 +17,7 @@ fn main(rt: HostRuntime) -> io::Result<()> {
     match File::open(&rt, "index") {
         Ok(mut file) => {
             let end = read_full(&mut file, &mut index)?;
-            each(&rt, &index[0..end])
+            each(&rt, &index[..end])
         }
         Err(_) => rt.print("no index\n"),
     }
@@ -27,18 +25,17 @@ fn main(rt: HostRuntime) -> io::Result<()> {
 
 // One line after the other.
 fn each(rt: &(impl Files + Print), index: &[u8]) -> io::Result<()> {
-    let mut at = 0;
-    while at < index.len() {
-        let end = lines::end(index, at);
-        tell(rt, &index[at..end])?;
-        at = end + 1;
+    for line in index.split_inclusive(|byte| *byte == LINE_END) {
+        // the last line may have no end
+        tell(rt, line.strip_suffix(&[LINE_END]).unwrap_or(line))?;
     }
     Ok(())
 }
 
+// A name that is no UTF-8 is shown as it is, and is no file's.
 fn tell(rt: &(impl Files + Print), name: &[u8]) -> io::Result<()> {
     rt.write_all(name)?;
-    rt.print("\n")?;
+    println!(rt; "")?;
     let Ok(path) = std::str::from_utf8(name) else {
         return rt.print("missing\n");
     };
@@ -46,30 +43,17 @@ fn tell(rt: &(impl Files + Print), name: &[u8]) -> io::Result<()> {
         Ok(mut file) => {
             let mut text = [0u8; INPUT_BYTES];
             let end = read_full(&mut file, &mut text)?;
-            tell_report(rt, &text[0..end])
+            tell_report(rt, &text[..end])
         }
         Err(_) => rt.print("missing\n"),
     }
 }
 
-fn least(m: usize, n: usize) -> usize
-    ensures { (result ≤ m) × (result ≤ n) }
-{
-    if m < n {
-        return m;
-    }
-    n
-}
-
 // The whole report.
 fn tell_report(rt: &impl Print, text: &[u8]) -> io::Result<()> {
     let mut page = [0u8; MAX_REPORT];
-    let answer = report_text::report(text, &mut page);
-    match answer {
-        ReportAnswer::Written { length } => {
-            let end = least(length, MAX_REPORT);
-            rt.write_all(&page[0..end])
-        }
-        ReportAnswer::Refused(why) => rt.print("the page is too short\n"),
+    match report_text::report(text, &mut page) {
+        Ok(length) => rt.write_all(&page[..length.min(MAX_REPORT)]),
+        Err(_) => rt.print("the page is too short\n"),
     }
 }

@@ -2,8 +2,9 @@
 // examples of the scope, and every refusal, on both sides of its limit. `tests/try_sets.py` works the same text out from the scope.
 #![tactic(auto)]
 
-use division::JobAnswer;
-use sets::{CountAnswer, RankAnswer, Refusal, SetAnswer};
+ghost use Rattle.std.specs.Prelude.{◌≤◌};
+
+use sets::Refusal;
 use std::io;
 
 fn main(rt: HostRuntime) -> io::Result<()> {
@@ -16,43 +17,23 @@ fn main(rt: HostRuntime) -> io::Result<()> {
     no_sets(&rt)
 }
 
-// A space and a number.
-fn number(rt: &impl Print, n: u64) -> io::Result<()> {
-    print!(rt; " {n}")
-}
-
-fn wide(x: u16) -> u64 {
-    x as u64
-}
-
 fn numbers(rt: &impl Print, set: &[u16]) -> io::Result<()> {
-    for i in 0..set.len() {
-        number(rt, wide(set[i]))?;
+    for wire in set {
+        print!(rt; " {wire}")?;
     }
     Ok(())
 }
 
-fn size(rt: &impl Print, n: usize) -> io::Result<()> {
-    number(rt, n as u64)
-}
-
 fn refused(rt: &impl Print, why: Refusal) -> io::Result<()> {
-    rt.print(" refused")?;
-    number(rt, why.number())?;
-    rt.print("\n")
+    let number = why.number();
+    println!(rt; " refused {number}")
 }
 
 fn tell_count(rt: &impl Print, wires: usize, k: usize) -> io::Result<()> {
-    rt.print("count")?;
-    size(rt, wires)?;
-    size(rt, k)?;
-    rt.print(":")?;
+    print!(rt; "count {wires} {k}:")?;
     match sets::set_count(wires, k) {
-        CountAnswer::Sets(n) => {
-            number(rt, n)?;
-            rt.print("\n")
-        }
-        CountAnswer::Refused(why) => refused(rt, why),
+        Ok(count) => println!(rt; " {count}"),
+        Err(why) => refused(rt, why),
     }
 }
 
@@ -64,47 +45,30 @@ fn tell_set(
     rank: u64,
     buffer: &mut [u16],
 ) -> io::Result<()> {
-    rt.print("set")?;
-    size(rt, wires)?;
-    size(rt, k)?;
-    number(rt, rank)?;
-    rt.print(":")?;
+    print!(rt; "set {wires} {k} {rank}:")?;
     let answer = sets::set_from_rank(wires, k, rank, buffer);
-    numbers(rt, &buffer[..])?;
+    numbers(rt, buffer)?;
     match answer {
-        SetAnswer::Written => rt.print("\n"),
-        SetAnswer::Refused(why) => refused(rt, why),
+        Ok(()) => println!(rt; ""),
+        Err(why) => refused(rt, why),
     }
 }
 
 fn tell_rank(rt: &impl Print, wires: usize, set: &[u16]) -> io::Result<()> {
-    rt.print("rank")?;
-    size(rt, wires)?;
+    print!(rt; "rank {wires}")?;
     numbers(rt, set)?;
-    rt.print(":")?;
+    print!(rt; ":")?;
     match sets::rank_from_set(wires, set) {
-        RankAnswer::Rank(rank) => {
-            number(rt, rank)?;
-            rt.print("\n")
-        }
-        RankAnswer::Refused(why) => refused(rt, why),
+        Ok(rank) => println!(rt; " {rank}"),
+        Err(why) => refused(rt, why),
     }
 }
 
 fn tell_job(rt: &impl Print, wires: usize, k: usize, job: u64, jobs: u64) -> io::Result<()> {
-    rt.print("job")?;
-    size(rt, wires)?;
-    size(rt, k)?;
-    number(rt, job)?;
-    number(rt, jobs)?;
-    rt.print(":")?;
+    print!(rt; "job {wires} {k} {job} {jobs}:")?;
     match division::job(wires, k, job, jobs) {
-        JobAnswer::Ranks { from, to } => {
-            number(rt, from)?;
-            number(rt, to)?;
-            rt.print("\n")
-        }
-        JobAnswer::Refused(why) => refused(rt, why),
+        Ok(ranks) => println!(rt; " {} {}", ranks.from, ranks.to),
+        Err(why) => refused(rt, why),
     }
 }
 
@@ -172,30 +136,22 @@ fn job_limits(rt: &impl Print) -> io::Result<()> {
 
 // A buffer of eight, one of six and an empty one.
 fn set_limits(rt: &impl Print) -> io::Result<()> {
-    set_of_eight(rt, 512, 7, 1000000000000)?;
-    set_of_eight(rt, 512, 7, u64::MAX)?;
-    set_of_eight(rt, 512, 8, 0)?;
-    set_of_eight(rt, 513, 9, 0)?;
-    set_of_eight(rt, usize::MAX, 9, 0)?;
-    set_of_six(rt, 512, 7, u64::MAX)?;
-    set_of_six(rt, 512, 6, 5)?;
-    set_of_none(rt, 0, 0, 0)?;
-    set_of_none(rt, 0, 0, 1)?;
-    set_of_none(rt, 1, 1, 0)
+    set_in::<8>(rt, 512, 7, 1000000000000)?;
+    set_in::<8>(rt, 512, 7, u64::MAX)?;
+    set_in::<8>(rt, 512, 8, 0)?;
+    set_in::<8>(rt, 513, 9, 0)?;
+    set_in::<8>(rt, usize::MAX, 9, 0)?;
+    set_in::<6>(rt, 512, 7, u64::MAX)?;
+    set_in::<6>(rt, 512, 6, 5)?;
+    set_in::<0>(rt, 0, 0, 0)?;
+    set_in::<0>(rt, 0, 0, 1)?;
+    set_in::<0>(rt, 1, 1, 0)
 }
 
-fn set_of_eight(rt: &impl Print, wires: usize, k: usize, rank: u64) -> io::Result<()> {
-    let mut buffer = [9u16; 8];
-    tell_set(rt, wires, k, rank, &mut buffer)
-}
-
-fn set_of_six(rt: &impl Print, wires: usize, k: usize, rank: u64) -> io::Result<()> {
-    let mut buffer = [9u16; 6];
-    tell_set(rt, wires, k, rank, &mut buffer)
-}
-
-fn set_of_none(rt: &impl Print, wires: usize, k: usize, rank: u64) -> io::Result<()> {
-    let mut buffer = [9u16; 0];
+fn set_in<const N: usize>(rt: &impl Print, wires: usize, k: usize, rank: u64) -> io::Result<()>
+    requires { N ≤ 8 }
+{
+    let mut buffer = [9u16; N];
     tell_set(rt, wires, k, rank, &mut buffer)
 }
 

@@ -8,8 +8,7 @@ ghost use Rattle.records.specs.Layout.{wire_count};
 
 use limits::RECORD_BYTES;
 use std::io;
-use table::{FunctionAnswer, Refusal, TableAnswer};
-use try_cases::{case_end, read_full, wide};
+use try_cases::{case_end, read_full};
 use wires::Notion;
 
 const ROOM: usize = 131072;
@@ -30,23 +29,17 @@ fn each(rt: &impl Print, cases: &[u8]) -> io::Result<()> {
     let mut at = 0;
     let mut end = case_end(cases, 0, HEAD);
     while HEAD <= end - at {
-        let shares = wide(cases[at]);
-        let masks = wide(cases[at + 1]);
         tell(
             rt,
             &cases[at + HEAD..end],
-            shares,
-            masks,
-            wide(cases[at + 2]),
+            usize::from(cases[at]),
+            usize::from(cases[at + 1]),
+            usize::from(cases[at + 2]),
         )?;
         at = end;
         end = case_end(cases, at, HEAD);
     }
     Ok(())
-}
-
-fn number(rt: &impl Print, n: usize) -> io::Result<()> {
-    print!(rt; "{n} ")
 }
 
 // The arguments, and the two answers.
@@ -57,30 +50,21 @@ fn tell(
     masks: usize,
     function: usize,
 ) -> io::Result<()> {
-    number(rt, shares)?;
-    number(rt, masks)?;
-    number(rt, table.len())?;
-    number(rt, function)?;
+    print!(rt; "{shares} {masks} {} {function} ", table.len())?;
     let tested = table::table_check(table, shares, masks);
-    let mut sound = true;
     match tested {
-        TableAnswer::Accepted => rt.print("accepted")?,
-        TableAnswer::Refused(why) => {
-            sound = false;
-            refused(rt, why)?;
-        }
+        Ok(()) => print!(rt; "accepted ")?,
+        Err(why) => print!(rt; "refused {} ", why.number())?,
     }
-    rt.print(" ")?;
-    let answer = table::function_check(table, shares, masks, function);
-    match answer {
-        FunctionAnswer::Yes => rt.print("yes")?,
-        FunctionAnswer::No => rt.print("no")?,
-        FunctionAnswer::Refused(why) => refused(rt, why)?,
+    match table::function_check(table, shares, masks, function) {
+        Ok(true) => print!(rt; "yes")?,
+        Ok(false) => print!(rt; "no")?,
+        Err(why) => print!(rt; "refused {}", why.number())?,
     }
-    if sound {
+    if tested.is_ok() {
         breaking(rt, table)?;
     }
-    rt.print("\n")
+    println!(rt; "")
 }
 
 // How many sets of one, two and three wires break NI, and how many SNI, out of a table of a few wires.
@@ -89,10 +73,9 @@ fn breaking(rt: &impl Print, table: &[u8]) -> io::Result<()> {
     if FEW_WIRES < wires {
         return Ok(());
     }
-    rt.print(" breaking ")?;
-    number(rt, sets_of_three(table, Notion::Ni, wires))?;
+    let ni = sets_of_three(table, Notion::Ni, wires);
     let sni = sets_of_three(table, Notion::Sni, wires);
-    print!(rt; "{sni}")
+    print!(rt; " breaking {ni} {sni}")
 }
 
 fn sets_of_three(table: &[u8], notion: Notion, wires: usize) -> usize
@@ -100,7 +83,7 @@ fn sets_of_three(table: &[u8], notion: Notion, wires: usize) -> usize
 {
     let mut count = 0;
     for i in 0..wires {
-        count = more(count, breaking::set_breaks(table, notion, &[i as u16]));
+        count = counted(count, breaking::set_breaks(table, notion, &[i as u16]));
         count = with_first(table, notion, wires, i, count);
     }
     count
@@ -112,7 +95,7 @@ fn with_first(table: &[u8], notion: Notion, wires: usize, i: usize, so_far: usiz
 {
     let mut count = so_far;
     for j in i + 1..wires {
-        count = more(
+        count = counted(
             count,
             breaking::set_breaks(table, notion, &[i as u16, j as u16]),
         );
@@ -127,7 +110,7 @@ fn with_two(table: &[u8], notion: Notion, wires: usize, i: usize, j: usize, so_f
 {
     let mut count = so_far;
     for k in j + 1..wires {
-        count = more(
+        count = counted(
             count,
             breaking::set_breaks(table, notion, &[i as u16, j as u16, k as u16]),
         );
@@ -135,16 +118,7 @@ fn with_two(table: &[u8], notion: Notion, wires: usize, i: usize, j: usize, so_f
     count
 }
 
-fn more(count: usize, breaks: bool) -> usize {
-    if breaks {
-        if count < 65535 {
-            return count + 1;
-        }
-    }
-    count
-}
-
-fn refused(rt: &impl Print, why: Refusal) -> io::Result<()> {
-    let number = why.number();
-    print!(rt; "refused {number}")
+// One more where a set breaks: there are few sets, so no count is at its end.
+fn counted(count: usize, breaks: bool) -> usize {
+    count.saturating_add(usize::from(breaks))
 }

@@ -17,11 +17,8 @@ const SIZE: usize = 7;
 fn main(rt: HostRuntime) -> io::Result<()> {
     let table = counts::table();
     let all = counts::count(&table, WIRES, SIZE);
-    if 0 < all {
-        let returned = trips(&table, all);
-        print!(rt; "{returned}")?;
-    }
-    rt.print(" of 100000 trips returned to their rank\n")
+    let returned = if 0 < all { trips(&table, all) } else { 0 };
+    println!(rt; "{returned} of {TRIPS} trips returned to their rank")
 }
 
 // How many of the trips come back to their rank.
@@ -34,23 +31,17 @@ fn trips(table: &[u64; COUNTS], all: u64) -> u64
     for trip in 0..TRIPS {
         // The golden ratio's step, modulo 2^64, spreads the ranks over the whole order.
         seed = seed.wrapping_add(11400714819323198485);
-        returned += there_and_back(table, seed % all);
+        returned += u64::from(there_and_back(table, seed % all));
     }
     returned
 }
 
-// 1 where the set at the rank has that rank.
-fn there_and_back(table: &[u64; COUNTS], rank: u64) -> u64
+// Whether the set at the rank has that rank.
+fn there_and_back(table: &[u64; COUNTS], rank: u64) -> bool
     requires counts { Counts table.now }
     requires rank_bound { rank < binom 512 7 }
-    ensures { result ≤ 1 }
 {
     let mut set = [0u16; 7];
     revolving::unrank(table, WIRES, SIZE, rank, &mut set);
-    if revolving::is_rising(WIRES, &set) {
-        if revolving::rank(table, WIRES, &set) == rank {
-            return 1;
-        }
-    }
-    0
+    revolving::is_rising(WIRES, &set) && revolving::rank(table, WIRES, &set) == rank
 }

@@ -4,14 +4,13 @@
 // and works the output out from the scope.
 #![tactic(auto)]
 
-ghost use Rattle.std.specs.Prelude.{◌≤◌, ◌<◌, length};
+ghost use Rattle.std.specs.Prelude.{◌≤◌, ◌<◌};
 
-use division::JobAnswer;
+use division::Ranks;
 use limits::RECORD_BYTES;
-use sets::CountAnswer;
 use std::io;
-use try_cases::{case_end, read_full, wide};
-use verdict_answers::{RangeAnswer, Refusal, VerdictAnswer};
+use try_cases::{case_end, read_full};
+use verdict_answers::{Checked, Judged, Refusal};
 
 mod edges;
 
@@ -24,6 +23,8 @@ pub const ROOM: usize = 9;
 
 const UNWRITTEN: u16 = 7777;
 
+// The notions by their numbers.
+// kept (C): `edges` asks for the notions 0, 3 and the largest number too, which no enum has
 pub const NI: usize = 1;
 
 pub const SNI: usize = 2;
@@ -45,8 +46,8 @@ fn each(rt: &impl Print, cases: &[u8]) -> io::Result<()> {
         tell(
             rt,
             &cases[at + HEAD..end],
-            wide(cases[at]),
-            wide(cases[at + 1]),
+            usize::from(cases[at]),
+            usize::from(cases[at + 1]),
         )?;
         at = end;
         end = case_end(cases, at, HEAD);
@@ -54,22 +55,9 @@ fn each(rt: &impl Print, cases: &[u8]) -> io::Result<()> {
     Ok(())
 }
 
-// A space and a number.
-fn number(rt: &impl Print, n: u64) -> io::Result<()> {
-    print!(rt; " {n}")
-}
-
-fn size_number(rt: &impl Print, n: usize) -> io::Result<()> {
-    number(rt, n as u64)
-}
-
 // The table that the next lines speak of: its shares, its masks, its length.
 pub fn title(rt: &impl Print, table: &[u8], shares: usize, masks: usize) -> io::Result<()> {
-    rt.print("table")?;
-    size_number(rt, shares)?;
-    size_number(rt, masks)?;
-    size_number(rt, table.len())?;
-    rt.print("\n")
+    println!(rt; "table {shares} {masks} {}", table.len())
 }
 
 // Verdicts at every order, and range checks, under both notions.
@@ -117,7 +105,7 @@ fn ranges_of(
     size: usize,
 ) -> io::Result<()> {
     let sets = sets_of(table, size);
-    let found = tell_range(rt, table, shares, masks, notion, size, 0, sets, ROOM)?;
+    let found = tell_range(rt, table, shares, masks, notion, size, 0, sets, ROOM)?.unwrap_or(sets);
     jobs(rt, table, shares, masks, notion, size)?;
     if found < sets {
         tell_range(
@@ -137,10 +125,7 @@ fn ranges_of(
 }
 
 fn sets_of(table: &[u8], size: usize) -> u64 {
-    match sets::set_count(table.len() / RECORD_BYTES, size) {
-        CountAnswer::Sets(n) => n,
-        CountAnswer::Refused(_) => 0,
-    }
+    sets::set_count(table.len() / RECORD_BYTES, size).unwrap_or(0)
 }
 
 fn jobs(
@@ -153,16 +138,16 @@ fn jobs(
 ) -> io::Result<()> {
     for job in 0..JOBS {
         match division::job(table.len() / RECORD_BYTES, size, job, JOBS) {
-            JobAnswer::Ranks { from, to } => {
+            Ok(Ranks { from, to }) => {
                 tell_range(rt, table, shares, masks, notion, size, from, to, ROOM)?;
             }
-            JobAnswer::Refused(_) => rt.print("no job\n")?,
+            Err(_) => println!(rt; "no job")?,
         }
     }
     Ok(())
 }
 
-// A verdict, and the directed verdict, each with a fresh buffer of which the first `room` numbers are lent.
+// A verdict, and the directed verdict.
 pub fn tell_verdict(
     rt: &impl Print,
     table: &[u8],
@@ -174,74 +159,39 @@ pub fn tell_verdict(
 ) -> io::Result<()>
     requires { room ≤ 9 }
 {
-    asked(rt, "verdict", notion, order, room)?;
+    print!(rt; "verdict {notion} {order} {room}")?;
+    ask(
+        rt,
+        |set| verdict::verdict(table, shares, masks, notion, order, set),
+        room,
+    )?;
+    print!(rt; "directed {notion} {order} {room}")?;
+    ask(
+        rt,
+        |set| directed::directed_verdict(table, shares, masks, notion, order, set),
+        room,
+    )
+}
+
+// What a verdict answers, with a fresh buffer of which the first `room` numbers are lent.
+fn ask<F: FnOnce(&mut [u16]) -> Result<Judged, Refusal>>(
+    rt: &impl Print,
+    judge: F,
+    room: usize,
+) -> io::Result<()>
+    requires callable { F.IsAlwaysCallable judge }
+    requires room { room ≤ 9 }
+{
     let mut buffer = [UNWRITTEN; ROOM];
-    ask_verdict(rt, table, shares, masks, notion, order, room, &mut buffer)?;
-    asked(rt, "directed", notion, order, room)?;
-    let mut other = [UNWRITTEN; ROOM];
-    ask_directed(rt, table, shares, masks, notion, order, room, &mut other)
-}
-
-fn asked(rt: &impl Print, name: &str, notion: usize, order: usize, room: usize) -> io::Result<()> {
-    rt.print(name)?;
-    size_number(rt, notion)?;
-    size_number(rt, order)?;
-    size_number(rt, room)
-}
-
-fn ask_verdict(
-    rt: &impl Print,
-    table: &[u8],
-    shares: usize,
-    masks: usize,
-    notion: usize,
-    order: usize,
-    room: usize,
-    buffer: &mut [u16],
-) -> io::Result<()>
-    requires { room ≤ length buffer.old }
-{
-    let answer = verdict::verdict(table, shares, masks, notion, order, &mut buffer[0..room]);
-    tell_answer(rt, answer)?;
-    held(rt, buffer)
-}
-
-fn ask_directed(
-    rt: &impl Print,
-    table: &[u8],
-    shares: usize,
-    masks: usize,
-    notion: usize,
-    order: usize,
-    room: usize,
-    buffer: &mut [u16],
-) -> io::Result<()>
-    requires { room ≤ length buffer.old }
-{
-    let answer = directed::directed_verdict(
-        table,
-        shares,
-        masks,
-        notion,
-        order,
-        &mut buffer[0..room],
-    );
-    tell_answer(rt, answer)?;
-    held(rt, buffer)
-}
-
-fn tell_answer(rt: &impl Print, answer: VerdictAnswer) -> io::Result<()> {
-    match answer {
-        VerdictAnswer::Holds => rt.print(": holds"),
-        VerdictAnswer::Broken { size } => {
-            rt.print(": broken")?;
-            size_number(rt, size)
-        }
-        VerdictAnswer::Refused(why) => refused(rt, why),
+    match judge(&mut buffer[0..room]) {
+        Ok(Judged::Holds) => print!(rt; ": holds")?,
+        Ok(Judged::Broken { size }) => print!(rt; ": broken {size}")?,
+        Err(why) => print!(rt; ": refused {}", why.number())?,
     }
+    held(rt, &buffer)
 }
 
-// The same for a range; gives the rank that was found, or the end of the range.
+// The same for a range; gives the rank that was found.
 pub fn tell_range(
     rt: &impl Print,
     table: &[u8],
@@ -252,86 +202,42 @@ pub fn tell_range(
     from: u64,
     to: u64,
     room: usize,
-) -> io::Result<u64>
+) -> io::Result<Option<u64>>
     requires { room ≤ 9 }
 {
-    rt.print("range")?;
-    size_number(rt, notion)?;
-    size_number(rt, size)?;
-    number(rt, from)?;
-    number(rt, to)?;
-    size_number(rt, room)?;
+    print!(rt; "range {notion} {size} {from} {to} {room}")?;
     let mut buffer = [UNWRITTEN; ROOM];
-    ask_range(
-        rt,
-        table,
-        shares,
-        masks,
-        notion,
-        size,
-        from,
-        to,
-        room,
-        &mut buffer,
-    )
-}
-
-fn ask_range(
-    rt: &impl Print,
-    table: &[u8],
-    shares: usize,
-    masks: usize,
-    notion: usize,
-    size: usize,
-    from: u64,
-    to: u64,
-    room: usize,
-    buffer: &mut [u16],
-) -> io::Result<u64>
-    requires { room ≤ length buffer.old }
-{
-    let answer = verdict::range_check(
-        table,
-        shares,
-        masks,
-        notion,
-        size,
-        from,
-        to,
-        &mut buffer[0..room],
-    );
-    let mut at = to;
-    match answer {
-        RangeAnswer::Clean => rt.print(": clean")?,
-        RangeAnswer::Found { size, rank } => {
-            rt.print(": found")?;
-            size_number(rt, size)?;
-            number(rt, rank)?;
-            at = rank;
+    let lent = &mut buffer[0..room];
+    let at = match verdict::range_check(table, shares, masks, notion, size, from, to, lent) {
+        Ok(Checked::Clean) => {
+            print!(rt; ": clean")?;
+            None
         }
-        RangeAnswer::Refused(why) => refused(rt, why)?,
-    }
-    held(rt, buffer)?;
+        Ok(Checked::Found { size, rank }) => {
+            print!(rt; ": found {size} {rank}")?;
+            Some(rank)
+        }
+        Err(why) => {
+            print!(rt; ": refused {}", why.number())?;
+            None
+        }
+    };
+    held(rt, &buffer)?;
     Ok(at)
-}
-
-fn refused(rt: &impl Print, why: Refusal) -> io::Result<()> {
-    rt.print(": refused")?;
-    number(rt, why.number())
 }
 
 // What a buffer holds.
 fn held(rt: &impl Print, buffer: &[u16]) -> io::Result<()> {
-    rt.print(" | ")?;
-    for i in 0..buffer.len() {
-        held_number(rt, buffer[i])?;
+    print!(rt; " | ")?;
+    for x in buffer {
+        held_number(rt, *x)?;
     }
-    rt.print("\n")
+    println!(rt; "")
 }
 
 fn held_number(rt: &impl Print, x: u16) -> io::Result<()> {
     if x == UNWRITTEN {
-        rt.print("-")
+        print!(rt; "-")
     } else {
         print!(rt; "{x} ")
     }

@@ -10,9 +10,9 @@ ghost use Rattle.verdict_answers.specs.First.{VerdictFinds};
 ghost use Rattle.verdict_answers.specs.Guarantee.{Guarantee};
 
 pub use dependence::set_dependence;
-use judging::{Way, judge};
+use judging::{Walk, judge};
 pub use ranges::range_check;
-pub use verdict_answers::{DependenceAnswer, RangeAnswer, Refusal, VerdictAnswer};
+pub use verdict_answers::{Checked, DependsOn, Judged, Refusal};
 
 // Whether the table holds the notion (1, NI; 2, SNI) at an order, by nested loops over size and rank. Where it does not, the first breaking set in rising
 // size and rank is written, rising, at the start of `set`.
@@ -23,10 +23,10 @@ pub fn verdict(
     notion: usize,
     order: usize,
     set: &mut [u16],
-) -> VerdictAnswer
+) -> Result<Judged, Refusal>
     ensures set_after { verdict_told result set.new ≡ verdict_of table.now shares masks notion order set.old }
     ensures verdict_finds { VerdictFinds result table.now shares masks notion order set.old set.new }
     ensures guarantee { Guarantee result table.now shares masks notion order set.new }
 {
-    judge(Way::Walk, table, shares, masks, notion, order, set)
+    judge::<Walk>(table, shares, masks, notion, order, set)
 }

@@ -8,10 +8,11 @@ use mathlib.Core.Path.{◌≡◌, refl, sym, ◌∙◌, ap, ap₂}
 use mathlib.Core.List.{List, [], ◌∷◌}
 use lib.ListN.{length, take, drop}
 use lib.Seq.{take-append_seam, drop-append_seam}
+use Rattle.std.specs.Prelude.{Ok}
 use Rattle.basics.specs.Told.{Lent, values}
 use Rattle.revolving.specs.Order.{rank_of}
-use Rattle.verdict_answers.specs.declared.VerdictAnswer.{VerdictAnswer}
-use Rattle.verdict_answers.specs.declared.RangeAnswer.{RangeAnswer}
+use Rattle.verdict_answers.specs.declared.Judged.{Judged}
+use Rattle.verdict_answers.specs.declared.Checked.{Checked}
 use Rattle.verdict_answers.specs.Answers.{verdict_told, range_told, written, first_shown, first_ranked}
 use Rattle.verdict_answers.specs.Jobs.{found, broken}
 
@@ -32,7 +33,7 @@ module _ (buffer : List ℕ) where
   shown-nil [] e = refl
   shown-nil (s ∷ later) e = let z : ◌≡◌ {A = ℕ} 0 1 = cc in absurd (omega (arith, z))
 
-  pub shown-parts : (size : ℕ) (held : List ℕ) (l : List (List ℕ)) → verdict_told (VerdictAnswer.Broken size) held ≡ first_shown l buffer
+  pub shown-parts : (size : ℕ) (held : List ℕ) (l : List (List ℕ)) → verdict_told (Ok (Judged.Broken size)) held ≡ first_shown l buffer
       → (s : List ℕ) × (later : List (List ℕ)) × (l ≡ s ∷ later) × (size ≡ length s) × (held ≡ written s buffer)
   shown-parts size held [] e = let f = ap (λ (a : Lent). a.told) e in let z : ◌≡◌ {A = ℕ} 0 1 = cc in absurd (omega (arith, z))
   shown-parts size held (s ∷ later) e =
@@ -49,7 +50,7 @@ module _ (buffer : List ℕ) where
   ranked-nil n [] e = refl
   ranked-nil n (s ∷ later) e = let z : ◌≡◌ {A = ℕ} 0 1 = cc in absurd (omega (arith, z))
 
-  pub ranked-parts : (n size rank : ℕ) (held : List ℕ) (l : List (List ℕ)) → range_told (RangeAnswer.Found size rank) held ≡ first_ranked n l buffer
+  pub ranked-parts : (n size rank : ℕ) (held : List ℕ) (l : List (List ℕ)) → range_told (Ok (Checked.Found size rank)) held ≡ first_ranked n l buffer
       → (s : List ℕ) × (later : List (List ℕ)) × (l ≡ s ∷ later) × (size ≡ length s) × (rank ≡ rank_of n s) × (held ≡ written s buffer)
   ranked-parts n size rank held [] e = let f = ap (λ (a : Lent). a.told) e in let z : ◌≡◌ {A = ℕ} 0 1 = cc in absurd (omega (arith, z))
   ranked-parts n size rank held (s ∷ later) e =

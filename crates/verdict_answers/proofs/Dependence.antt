@@ -11,6 +11,7 @@ use mathlib.Core.Logic.{◌↔◌, ◌⊎◌, inl, inr}
 use mathlib.Core.Bool.{Bool, true, false}
 use mathlib.Core.List.{List, [], ◌∷◌, map}
 use lib.ListN.{length, take, length-map}
+use Rattle.std.specs.Prelude.{Result, Ok}
 use Rattle.basics.specs.Folds.{one_if}
 use Rattle.basics.specs.Told.{Told, values}
 use Rattle.wires.specs.declared.Notion.{Notion}
@@ -24,8 +25,9 @@ use Rattle.records.specs.Layout.{wire_at, wire_count}
 use Rattle.table.specs.Answers.{table_check}
 use Rattle.table.proofs.Conditions.{accepted_exactly}
 use Rattle.breaking.specs.Breaking.{is_breaking}
-use Rattle.verdict_answers.specs.declared.VerdictAnswer.{VerdictAnswer}
-use Rattle.verdict_answers.specs.declared.DependenceAnswer.{DependenceAnswer}
+use Rattle.verdict_answers.specs.declared.Refusal.{Refusal}
+use Rattle.verdict_answers.specs.declared.Judged.{Judged}
+use Rattle.verdict_answers.specs.declared.DependsOn.{DependsOn}
 use Rattle.verdict_answers.specs.Answers.{dependence_told, notion_of, verdict_of, set_dependence}
 use Rattle.verdict_answers.specs.Conditions.{WrongNotion}
 use Rattle.verdict_answers.specs.First.{NotAfter, FirstBreaking}
@@ -53,7 +55,7 @@ module _ (table : List ℕ) (shares masks notion : ℕ) (set : List ℕ) where
   Counted of_a of_b most left =
       (count_a shares (total v) ≡ of_a) × (count_b shares (total v) ≡ of_b) × (allowed kind v ≡ most) × (masked masks (total v) ≡ left)
 
-  counted : (of_a of_b most : ℕ) (left : Bool) → dependence_told (DependenceAnswer.Depends of_a of_b most left) ≡ set_dependence table shares masks notion set
+  counted : (of_a of_b most : ℕ) (left : Bool) → values (of_a ∷ of_b ∷ most ∷ one_if left ∷ []) ≡ set_dependence table shares masks notion set
       → Counted of_a of_b most left
   counted of_a of_b most left e =
       let asked = (dependence_asked table shares masks notion set).0 (of_a ∷ of_b ∷ most ∷ one_if left ∷ [], sym e) in
@@ -89,13 +91,13 @@ module _ (table : List ℕ) (shares masks notion : ℕ) (set : List ℕ) where
       back (inl h) = inl (omega (arith, h, c.0, c.2))
       back (inr h) = inr (omega (arith, h, c.1, c.2))
 
-  pub means : (answer : DependenceAnswer) → dependence_told answer ≡ set_dependence table shares masks notion set
+  pub means : (answer : Result DependsOn Refusal) → dependence_told answer ≡ set_dependence table shares masks notion set
       → DependenceMeans answer table shares masks notion set
   means answer e =
-      let told : (of_a of_b most : ℕ) (left : Bool) → answer ≡ DependenceAnswer.Depends of_a of_b most left → Counted of_a of_b most left =
-      λ of_a of_b most left f. counted of_a of_b most left (ap dependence_told (sym f) ∙ e) in record {
-        depends = λ of_a of_b most left f. depends of_a of_b most left (told of_a of_b most left f);
-        breaks-exactly = λ of_a of_b most left f. by_counts of_a of_b most left (told of_a of_b most left f);
+      let told : (on : DependsOn) → answer ≡ Ok on → Counted on.of_a on.of_b on.allowed on.masked =
+      λ on f. counted on.of_a on.of_b on.allowed on.masked (ap dependence_told (sym f) ∙ e) in record {
+        depends = λ on f. depends on.of_a on.of_b on.allowed on.masked (told on f);
+        breaks-exactly = λ on f. by_counts on.of_a on.of_b on.allowed on.masked (told on f);
       }
 
   pub told-exactly : SetAsked table shares masks notion set → (of_a of_b most : ℕ) (left : Bool)
@@ -179,6 +181,6 @@ pub shown_leaks : (table : List ℕ) (shares masks notion order : ℕ) (buffer :
 shown_leaks table shares masks notion order buffer size e =
     let answer = verdict_of table shares masks notion order buffer in
     let o = (verdict_ordered table shares masks notion order buffer).0 (size ∷ [], e) in
-    let finds = verdict_finds table shares masks notion order buffer answer.held (VerdictAnswer.Broken size)
+    let finds = verdict_finds table shares masks notion order buffer answer.held (Ok (Judged.Broken size))
     (ap (λ (t : Told). record { told = t; held = answer.held }) (sym e)) in
     first_leaks table shares masks notion order o.sound o.known o.high (take size answer.held) (finds.broken size refl).1

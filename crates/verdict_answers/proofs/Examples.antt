@@ -14,6 +14,7 @@ use mathlib.Core.Logic.{inl, inr}
 use mathlib.Core.Bool.{true, false, xor}
 use mathlib.Core.List.{List, [], ◌∷◌, ◌++◌, map}
 use lib.ListN.{take}
+use Rattle.std.specs.Prelude.{Ok, Err}
 use Rattle.basics.specs.Folds.{up_to}
 use Rattle.basics.specs.Told.{Lent, values, refusal}
 use Rattle.wires.specs.declared.Notion.TheVariants.{Ni}
@@ -23,15 +24,13 @@ use Rattle.records.specs.Words.{bit}
 use Rattle.records.specs.Layout.{wire_at}
 use Rattle.counts.specs.Counts.{binom}
 use Rattle.revolving.specs.Order.{revolving}
-use Rattle.division.specs.declared.JobAnswer.{JobAnswer}
 use Rattle.division.specs.Answers.{job_told}
 use Rattle.table.specs.declared.Refusal.TheVariants.{SharesOrMasks, TableLength, RecordOutOfRange}
 use Rattle.table.proofs.Examples.{record8, table_a, table_b, table_c}
 use Rattle.verdict_answers.specs.declared.Refusal.{Refusal}
 use Rattle.verdict_answers.specs.declared.Refusal.TheVariants.{Table, NoSuchNotion, OrderOutOfRange, BufferTooShort, SizeTooLarge, RanksOutOfRange, NotASet}
-use Rattle.verdict_answers.specs.declared.RangeAnswer.{RangeAnswer}
-use Rattle.verdict_answers.specs.declared.VerdictAnswer.{VerdictAnswer}
-use Rattle.verdict_answers.specs.declared.DependenceAnswer.{DependenceAnswer}
+use Rattle.verdict_answers.specs.declared.Checked.{Checked}
+use Rattle.verdict_answers.specs.declared.Judged.{Judged}
 use Rattle.breaking.specs.Breaking.{is_breaking}
 use Rattle.search.specs.Search.{searched}
 use Rattle.verdict_answers.specs.Answers.{refusal_number, verdict_told, range_told, dependence_told, verdict_of, range_check, set_dependence}
@@ -136,16 +135,16 @@ empty_table_lem = (refl, refl, refl)
 -- the number of every refusal, and what every answer tells; a buffer longer than the largest set is told whole
 pub numbers : (map refusal_number (Table SharesOrMasks ∷ Table TableLength ∷ Table RecordOutOfRange ∷ NoSuchNotion ∷ OrderOutOfRange ∷ BufferTooShort
     ∷ SizeTooLarge ∷ RanksOutOfRange ∷ NotASet ∷ []) ≡ 11 ∷ 12 ∷ 13 ∷ 14 ∷ 15 ∷ 16 ∷ 17 ∷ 18 ∷ 21 ∷ [])
-    × ((why : Refusal) (held : List ℕ) → verdict_told (VerdictAnswer.Refused why) held ≡ record { told = refusal (refusal_number why); held = held })
-    × ((held : List ℕ) → verdict_told VerdictAnswer.Holds held ≡ record { told = values []; held = held })
-    × ((size : ℕ) (held : List ℕ) → verdict_told (VerdictAnswer.Broken size) held ≡ record { told = values (size ∷ []); held = held })
-    × ((why : Refusal) (held : List ℕ) → range_told (RangeAnswer.Refused why) held ≡ record { told = refusal (refusal_number why); held = held })
-    × ((held : List ℕ) → range_told RangeAnswer.Clean held ≡ record { told = values []; held = held })
-    × ((size rank : ℕ) (held : List ℕ) → range_told (RangeAnswer.Found size rank) held ≡ record { told = values (size ∷ rank ∷ []); held = held })
-    × ((why : Refusal) → dependence_told (DependenceAnswer.Refused why) ≡ refusal (refusal_number why))
-    × ((of_a of_b most : ℕ) → dependence_told (DependenceAnswer.Depends of_a of_b most true) ≡ values (of_a ∷ of_b ∷ most ∷ 1 ∷ []))
-    × ((of_a of_b most : ℕ) → dependence_told (DependenceAnswer.Depends of_a of_b most false) ≡ values (of_a ∷ of_b ∷ most ∷ 0 ∷ []))
-    × ((from to : ℕ) → job_told (JobAnswer.Ranks from to) ≡ values (from ∷ to ∷ []))
+    × ((why : Refusal) (held : List ℕ) → verdict_told (Err why) held ≡ record { told = refusal (refusal_number why); held = held })
+    × ((held : List ℕ) → verdict_told (Ok Judged.Holds) held ≡ record { told = values []; held = held })
+    × ((size : ℕ) (held : List ℕ) → verdict_told (Ok (Judged.Broken size)) held ≡ record { told = values (size ∷ []); held = held })
+    × ((why : Refusal) (held : List ℕ) → range_told (Err why) held ≡ record { told = refusal (refusal_number why); held = held })
+    × ((held : List ℕ) → range_told (Ok Checked.Clean) held ≡ record { told = values []; held = held })
+    × ((size rank : ℕ) (held : List ℕ) → range_told (Ok (Checked.Found size rank)) held ≡ record { told = values (size ∷ rank ∷ []); held = held })
+    × ((why : Refusal) → dependence_told (Err why) ≡ refusal (refusal_number why))
+    × ((of_a of_b most : ℕ) → dependence_told (Ok (record { of_a = of_a; of_b = of_b; allowed = most; masked = true })) ≡ values (of_a ∷ of_b ∷ most ∷ 1 ∷ []))
+    × ((of_a of_b most : ℕ) → dependence_told (Ok (record { of_a = of_a; of_b = of_b; allowed = most; masked = false })) ≡ values (of_a ∷ of_b ∷ most ∷ 0 ∷ []))
+    × ((from to : ℕ) → job_told (Ok (record { from = from; to = to })) ≡ values (from ∷ to ∷ []))
 numbers = (
   refl,
   λ why held. refl,
@@ -161,11 +160,11 @@ numbers = (
 )
 
 -- a rank that is one too high, and a breaking set that is not the first, are not what the clauses of demand 2 let pass
-pub rank-refused : RangeFinds (RangeAnswer.Found 2 2) pair 3 1 1 2 0 6 room (1 ∷ 2 ∷ 9 ∷ []) → ⊥
+pub rank-refused : RangeFinds (Ok (Checked.Found 2 2)) pair 3 1 1 2 0 6 room (1 ∷ 2 ∷ 9 ∷ []) → ⊥
 unfolding revolving
 rank-refused g = let e = (g.found 2 2 refl).2.stands in let z : ◌≡◌ {A = ℕ} 0 1 = cc in omega (arith, z)
 
-pub later-refused : VerdictFinds (VerdictAnswer.Broken 2) pair 3 1 2 2 room (2 ∷ 3 ∷ 9 ∷ []) → ⊥
+pub later-refused : VerdictFinds (Ok (Judged.Broken 2)) pair 3 1 2 2 room (2 ∷ 3 ∷ 9 ∷ []) → ⊥
 unfolding is_breaking revolving breaks count_a masked bit up_to xor
 later-refused g =
     go ((g.broken 2 refl).1.first (1 ∷ 2 ∷ []) (record { distinct = refl; within = refl; few = le_refl 2 }) refl)
@@ -177,23 +176,23 @@ later-refused g =
 -- ---- demand 3's clause by itself
 
 -- it refuses holds for `pair` at order 2: the answer of a program that waves pairs through, or answers before it looks at a set
-pub holds-refused : (held : List ℕ) → Guarantee VerdictAnswer.Holds pair 3 1 1 2 held → ⊥
+pub holds-refused : (held : List ℕ) → Guarantee (Ok Judged.Holds) pair 3 1 1 2 held → ⊥
 unfolding breaks count_a masked bit up_to xor
 holds-refused held g =
     no_choice Ni 3 1 (map (wire_at pair) (1 ∷ 2 ∷ [])) refl
     ((g.holds-exactly apart).0 refl (1 ∷ 2 ∷ []) (record { distinct = refl; within = refl; few = le_refl 2 }))
   where
-    apart : (why : Refusal) → VerdictAnswer.Holds ≡ VerdictAnswer.Refused why → ⊥
+    apart : (why : Refusal) → (Ok Judged.Holds) ≡ Err why → ⊥
     apart why e = let z : ◌≡◌ {A = ℕ} 0 1 = cc in omega (arith, z)
 
 -- it refuses wire 0 as the set shown
-pub wire_0_refused : Guarantee (VerdictAnswer.Broken 1) pair 3 1 1 2 (0 ∷ 9 ∷ 9 ∷ []) → ⊥
+pub wire_0_refused : Guarantee (Ok (Judged.Broken 1)) pair 3 1 1 2 (0 ∷ 9 ∷ 9 ∷ []) → ⊥
 unfolding searched is_breaking revolving breaks count_a masked bit up_to xor
 wire_0_refused g =
     (g.broken-shows 1 refl).no_choice (all_choose pair 3 1 1 1 refl (0 ∷ []) (record { distinct = refl; within = refl; few = le_refl 1 }))
 
 -- and every set for text A, which holds
-pub broken-refused : (size : ℕ) (held : List ℕ) → Guarantee (VerdictAnswer.Broken size) table_a 2 1 1 1 held → ⊥
+pub broken-refused : (size : ℕ) (held : List ℕ) → Guarantee (Ok (Judged.Broken size)) table_a 2 1 1 1 held → ⊥
 unfolding searched is_breaking revolving breaks count_a masked bit up_to xor
 broken-refused size held g =
     let shown = g.broken-shows size refl in shown.no_choice (all_choose table_a 2 1 1 1 refl (take size held) shown.watched)

@@ -6,6 +6,7 @@ use native.Mathlib.Omega.{arith}
 use mathlib.Core.Path.{◌≡◌, sym, ◌∙◌, ap, subst}
 use mathlib.Core.List.{List, [], ◌∷◌}
 use lib.ListN.{length, take, drop}
+use Rattle.std.specs.Prelude.{Result, Ok, Err}
 use Rattle.basics.specs.Folds.{keep}
 use Rattle.basics.specs.Told.{Lent, values}
 use Rattle.records.specs.Layout.{wire_count}
@@ -13,13 +14,14 @@ use Rattle.counts.specs.Counts.{binom}
 use Rattle.revolving.specs.Order.{set_at}
 use Rattle.revolving.proofs.Rising.{is_set-parts}
 use Rattle.revolving.proofs.Revolving.{set_at-is-set}
-use Rattle.verdict_answers.specs.declared.VerdictAnswer.{VerdictAnswer}
-use Rattle.verdict_answers.specs.declared.RangeAnswer.{RangeAnswer}
+use Rattle.verdict_answers.specs.declared.Refusal.{Refusal}
+use Rattle.verdict_answers.specs.declared.Judged.{Judged}
+use Rattle.verdict_answers.specs.declared.Checked.{Checked}
 use Rattle.breaking.specs.Breaking.{is_breaking}
 use Rattle.search.specs.Search.{searched, stretch}
 use Rattle.verdict_answers.specs.Answers.{refusal_number, verdict_told, range_told, notion_of, first_shown, first_ranked, verdict_of, range_check}
 use Rattle.verdict_answers.specs.First.{FirstBreaking, FirstInRange, VerdictFinds, RangeFinds}
-use Rattle.verdict_answers.specs.Jobs.{found, broken, Ordered, Asked}
+use Rattle.verdict_answers.specs.Jobs.{found, Ordered, Asked}
 use Rattle.verdict_answers.proofs.Watching.{all_whole}
 use Rattle.verdict_answers.proofs.Accepting.{written_front, written-rest, shown-parts, ranked-parts, shown-nil, ranked-nil}
 use Rattle.verdict_answers.proofs.Conditions.{verdict_settled, range_settled, verdict_answered, range_answered, verdict_ordered, range_asked}
@@ -38,7 +40,7 @@ module _ (table : List ℕ) (shares masks notion order : ℕ) (buffer held : Lis
   answered : (l : List ℕ) → values l ≡ told_verdict.told → told_verdict ≡ first_shown breaking buffer
   answered l e = verdict_answered table shares masks notion order buffer (ordered l e)
 
-  shown : (size : ℕ) → verdict_told (VerdictAnswer.Broken size) held ≡ first_shown breaking buffer
+  shown : (size : ℕ) → verdict_told (Ok (Judged.Broken size)) held ≡ first_shown breaking buffer
       → (drop size held ≡ drop size buffer) × FirstBreaking table shares masks notion order (take size held)
   shown size e =
       let r = shown-parts buffer size held breaking e in (
@@ -47,9 +49,9 @@ module _ (table : List ℕ) (shares masks notion order : ℕ) (buffer held : Lis
             (first-is table shares masks notion order r.0 r.1 r.2),
       )
 
-  pub verdict_finds : (answer : VerdictAnswer) → verdict_told answer held ≡ told_verdict
+  pub verdict_finds : (answer : Result Judged Refusal) → verdict_told answer held ≡ told_verdict
       → VerdictFinds answer table shares masks notion order buffer held
-  verdict_finds VerdictAnswer.Holds e =
+  verdict_finds (Ok Judged.Holds) e =
       let f = ap (λ (a : Lent). a.told) e in
       let shows = e ∙ answered [] f in
       let none = shown-nil buffer breaking (ap (λ (a : Lent). a.told) (sym shows)) in record {
@@ -60,7 +62,7 @@ module _ (table : List ℕ) (shares masks notion order : ℕ) (buffer held : Lis
         broken = λ size same. let z : ◌≡◌ {A = ℕ} 0 1 = cc in absurd (omega (arith, z));
         refused = λ why same. let z : ◌≡◌ {A = ℕ} 0 1 = cc in absurd (omega (arith, z));
       }
-  verdict_finds (VerdictAnswer.Broken size) e =
+  verdict_finds (Ok (Judged.Broken size)) e =
       let f = ap (λ (a : Lent). a.told) e in record {
         holds = λ same. let z : ◌≡◌ {A = ℕ} 0 1 = cc in absurd (omega (arith, z));
         broken = λ other same. let k : size ≡ other = cc in
@@ -68,7 +70,7 @@ module _ (table : List ℕ) (shares masks notion order : ℕ) (buffer held : Lis
             (shown size (e ∙ answered (size ∷ []) f));
         refused = λ why same. let z : ◌≡◌ {A = ℕ} 0 1 = cc in absurd (omega (arith, z));
       }
-  verdict_finds (VerdictAnswer.Refused why) e = record {
+  verdict_finds (Err why) e = record {
     holds = λ same. let z : ◌≡◌ {A = ℕ} 0 1 = cc in absurd (omega (arith, z));
     broken = λ size same. let z : ◌≡◌ {A = ℕ} 0 1 = cc in absurd (omega (arith, z));
     refused = λ other same.
@@ -91,7 +93,7 @@ module _ (table : List ℕ) (shares masks notion size from to : ℕ) (buffer hel
   listed : Accepts → told_range ≡ first_ranked (wire_count table) ranges buffer
   listed o = range_answered table shares masks notion size from to buffer o.0 o.1 o.2
 
-  placed : Accepts → (k rank : ℕ) → range_told (RangeAnswer.Found k rank) held ≡ told_range
+  placed : Accepts → (k rank : ℕ) → range_told (Ok (Checked.Found k rank)) held ≡ told_range
       → (k ≡ size) × (drop size held ≡ drop size buffer) × FirstInRange table shares masks notion size from to (take size held) rank
   placed o k rank e =
       let n = wire_count table in
@@ -107,9 +109,9 @@ module _ (table : List ℕ) (shares masks notion size from to : ℕ) (buffer hel
             (sym (written_front buffer size held r.0 whole r.5)) first,
       )
 
-  pub range_finds : (answer : RangeAnswer) → range_told answer held ≡ told_range
+  pub range_finds : (answer : Result Checked Refusal) → range_told answer held ≡ told_range
       → RangeFinds answer table shares masks notion size from to buffer held
-  range_finds RangeAnswer.Clean e =
+  range_finds (Ok Checked.Clean) e =
       let o = accepts [] (ap (λ (a : Lent). a.told) (sym e)) in
       let shows = e ∙ listed o in
       let none = ranked-nil buffer (wire_count table) ranges (ap (λ (a : Lent). a.told) (sym shows)) in record {
@@ -121,7 +123,7 @@ module _ (table : List ℕ) (shares masks notion size from to : ℕ) (buffer hel
         found = λ k rank same. let z : ◌≡◌ {A = ℕ} 0 1 = cc in absurd (omega (arith, z));
         refused = λ why same. let z : ◌≡◌ {A = ℕ} 0 1 = cc in absurd (omega (arith, z));
       }
-  range_finds (RangeAnswer.Found k rank) e =
+  range_finds (Ok (Checked.Found k rank)) e =
       let o = accepts (k ∷ rank ∷ []) (ap (λ (a : Lent). a.told) (sym e)) in record {
         clean = λ same. let z : ◌≡◌ {A = ℕ} 0 1 = cc in absurd (omega (arith, z));
         found = λ other place same. let p : k ≡ other = cc in let q : rank ≡ place = cc in
@@ -132,7 +134,7 @@ module _ (table : List ℕ) (shares masks notion size from to : ℕ) (buffer hel
             (placed o k rank e));
         refused = λ why same. let z : ◌≡◌ {A = ℕ} 0 1 = cc in absurd (omega (arith, z));
       }
-  range_finds (RangeAnswer.Refused why) e = record {
+  range_finds (Err why) e = record {
     clean = λ same. let z : ◌≡◌ {A = ℕ} 0 1 = cc in absurd (omega (arith, z));
     found = λ k rank same. let z : ◌≡◌ {A = ℕ} 0 1 = cc in absurd (omega (arith, z));
     refused = λ other same.

@@ -15,6 +15,7 @@ use mathlib.Core.Logic.{◌↔◌, ◌⊎◌, inl, inr}
 use mathlib.Core.Bool.{Bool, true, false, cond, true≢false}
 use mathlib.Core.List.{List, [], ◌∷◌, map}
 use lib.ListN.{length, take}
+use Rattle.std.specs.Prelude.{Ok, Err}
 use Rattle.basics.specs.Folds.{keep}
 use Rattle.basics.proofs.Tests.{and_left, and_right, and_both}
 use Rattle.wires.specs.Wires.{breaks}
@@ -26,7 +27,7 @@ use Rattle.revolving.specs.Order.{revolving, set_at, rank_of, rising, below, is_
 use Rattle.revolving.proofs.Rising.{Chosen, chosen_true, chosen_is, rising_chosen, is_set-parts, parts-is_set}
 use Rattle.revolving.proofs.Revolving.{revolving-length, set_at-is-set, set_of_rank}
 use Rattle.verdict_answers.specs.declared.Refusal.{Refusal}
-use Rattle.verdict_answers.specs.declared.VerdictAnswer.{VerdictAnswer}
+use Rattle.verdict_answers.specs.declared.Judged.{Judged}
 use Rattle.breaking.specs.Breaking.{is_breaking}
 use Rattle.search.specs.Search.{searched}
 use Rattle.verdict_answers.specs.Answers.{notion_of}
@@ -137,7 +138,7 @@ module _ (table : List ℕ) (shares masks notion order : ℕ) where
       not-empty (x ∷ s) e = omega arith
 
   -- what the guarantee says of each answer
-  pub guarantee_holds : (held : List ℕ) → Guarantee VerdictAnswer.Holds table shares masks notion order held
+  pub guarantee_holds : (held : List ℕ) → Guarantee (Ok Judged.Holds) table shares masks notion order held
       ↔ ((set : List ℕ) → Watched table order set → HasChoice table shares masks notion set)
   guarantee_holds held = (
     λ g. (g.holds-exactly (λ why same. let z : ◌≡◌ {A = ℕ} 0 1 = cc in absurd (omega (arith, z)))).0 refl,
@@ -148,7 +149,7 @@ module _ (table : List ℕ) (shares masks notion order : ℕ) where
     },
   )
 
-  pub guarantee_broken : (size : ℕ) (held : List ℕ) → Guarantee (VerdictAnswer.Broken size) table shares masks notion order held
+  pub guarantee_broken : (size : ℕ) (held : List ℕ) → Guarantee (Ok (Judged.Broken size)) table shares masks notion order held
       ↔ Shown table shares masks notion order size held
   guarantee_broken size held = (
     λ g. g.broken-shows size refl,
@@ -162,18 +163,18 @@ module _ (table : List ℕ) (shares masks notion order : ℕ) where
     },
   )
 
-  pub refused : (why : Refusal) (held : List ℕ) → Guarantee (VerdictAnswer.Refused why) table shares masks notion order held
+  pub refused : (why : Refusal) (held : List ℕ) → Guarantee (Err why) table shares masks notion order held
   refused why held = record {
     holds-exactly = λ none. absurd (none why refl);
     broken-shows = λ size same. let z : ◌≡◌ {A = ℕ} 0 1 = cc in absurd
         (omega (arith, z));
   }
 
-  pub holds : (held : List ℕ) → keep test (searched (wire_count table) order) ≡ [] → Guarantee VerdictAnswer.Holds table shares masks notion order held
+  pub holds : (held : List ℕ) → keep test (searched (wire_count table) order) ≡ [] → Guarantee (Ok Judged.Holds) table shares masks notion order held
   holds held none = (guarantee_holds held).1 (all_choose none)
 
   pub broken : (size : ℕ) (held s : List ℕ) (later : List (List ℕ)) → keep test (searched (wire_count table) order) ≡ s ∷ later → size ≡ length s
-      → take size held ≡ s → Guarantee (VerdictAnswer.Broken size) table shares masks notion order held
+      → take size held ≡ s → Guarantee (Ok (Judged.Broken size)) table shares masks notion order held
   broken size held s later found long front =
       let shown = shown-none s later found in
       (guarantee_broken size held).1 (record {

@@ -10,7 +10,7 @@
 --     first_shown, first_ranked    the answer that shows the first of a list of sets, without its rank and with it
 --     verdict_of, range_check      what each entry is to tell, and what the buffer is to hold
 --     depended, set_dependence    on how many shares a set depends, and what the entry is to tell
-use Rattle.std.specs.Prelude.{ℕ, Bool, cond, not, ◌&&◌, ◌||◌, List, [], ◌∷◌, ◌++◌, map, ltb, leb, eqb, length, drop}
+use Rattle.std.specs.Prelude.{ℕ, Bool, cond, not, ◌&&◌, ◌||◌, List, [], ◌∷◌, ◌++◌, map, ltb, leb, eqb, length, drop, Result, Ok, Err}
 use Rattle.limits.specs.Limits.{max_size}
 use Rattle.basics.specs.Folds.{one_if}
 use Rattle.basics.specs.Told.{Told, Lent, values, refusal, turned_down}
@@ -23,9 +23,9 @@ use Rattle.counts.specs.Counts.{binom}
 use Rattle.revolving.specs.Order.{rank_of, rising, below}
 use Rattle.verdict_answers.specs.declared.Refusal.{Refusal}
 use Rattle.verdict_answers.specs.declared.Refusal.TheVariants.{Table, NoSuchNotion, OrderOutOfRange, BufferTooShort, SizeTooLarge, RanksOutOfRange, NotASet}
-use Rattle.verdict_answers.specs.declared.VerdictAnswer.{VerdictAnswer}
-use Rattle.verdict_answers.specs.declared.RangeAnswer.{RangeAnswer}
-use Rattle.verdict_answers.specs.declared.DependenceAnswer.{DependenceAnswer}
+use Rattle.verdict_answers.specs.declared.Judged.{Judged}
+use Rattle.verdict_answers.specs.declared.Checked.{Checked}
+use Rattle.verdict_answers.specs.declared.DependsOn.{DependsOn}
 use Rattle.search.specs.Search.{searched, stretch, breaking_sets}
 
 abbrev pub refusal_number : Refusal → ℕ
@@ -38,21 +38,21 @@ refusal_number RanksOutOfRange = 18
 refusal_number NotASet = 21
 
 -- holds has no value; broken has the set's size
-abbrev pub verdict_told : VerdictAnswer → List ℕ → Lent
-verdict_told VerdictAnswer.Holds held = record { told = values []; held = held }
-verdict_told (VerdictAnswer.Broken size) held = record { told = values (size ∷ []); held = held }
-verdict_told (VerdictAnswer.Refused why) held = record { told = refusal (refusal_number why); held = held }
+abbrev pub verdict_told : Result Judged Refusal → List ℕ → Lent
+verdict_told (Ok Judged.Holds) held = record { told = values []; held = held }
+verdict_told (Ok (Judged.Broken size)) held = record { told = values (size ∷ []); held = held }
+verdict_told (Err why) held = record { told = refusal (refusal_number why); held = held }
 
 -- clean has no value; found has the set's size and its rank
-abbrev pub range_told : RangeAnswer → List ℕ → Lent
-range_told RangeAnswer.Clean held = record { told = values []; held = held }
-range_told (RangeAnswer.Found size rank) held = record { told = values (size ∷ rank ∷ []); held = held }
-range_told (RangeAnswer.Refused why) held = record { told = refusal (refusal_number why); held = held }
+abbrev pub range_told : Result Checked Refusal → List ℕ → Lent
+range_told (Ok Checked.Clean) held = record { told = values []; held = held }
+range_told (Ok (Checked.Found size rank)) held = record { told = values (size ∷ rank ∷ []); held = held }
+range_told (Err why) held = record { told = refusal (refusal_number why); held = held }
 
 -- the counts of a and of b, what the notion allows, and 1 where a mask is left, else 0
-abbrev pub dependence_told : DependenceAnswer → Told
-dependence_told (DependenceAnswer.Depends of_a of_b most left) = values (of_a ∷ of_b ∷ most ∷ one_if left ∷ [])
-dependence_told (DependenceAnswer.Refused why) = refusal (refusal_number why)
+abbrev pub dependence_told : Result DependsOn Refusal → Told
+dependence_told (Ok on) = values (on.of_a ∷ on.of_b ∷ on.allowed ∷ one_if on.masked ∷ [])
+dependence_told (Err why) = refusal (refusal_number why)
 
 -- 14, notion not 1 (NI) or 2 (SNI)
 abbrev pub wrong_notion : ℕ → Bool

@@ -5,7 +5,7 @@
 --     LeaksA, LeaksB     the set admits no choice of shares, even if every share of the other operand may be chosen
 --     Leaking            the set that a verdict shows has no mask left, an operand's count is above what is allowed exactly when it leaks, and
 --                        one of the two does
-use Rattle.std.specs.Prelude.{ℕ, ◌≤◌, ◌<◌, ◌≡◌, ◌↔◌, ◌⊎◌, Bool, true, false, List, [], ◌∷◌, map, length}
+use Rattle.std.specs.Prelude.{ℕ, ◌≤◌, ◌<◌, ◌≡◌, ◌↔◌, ◌⊎◌, true, false, List, [], ◌∷◌, map, length, Result, Ok}
 use Rattle.limits.specs.Limits.{max_size}
 use Rattle.basics.specs.Told.{values}
 use Rattle.wires.specs.Dependence.{SetDepends}
@@ -14,7 +14,8 @@ use Rattle.records.specs.Layout.{wire_at, wire_count}
 use Rattle.revolving.specs.Order.{rising, below}
 use Rattle.table.specs.Answers.{table_check}
 use Rattle.breaking.specs.Breaking.{is_breaking}
-use Rattle.verdict_answers.specs.declared.DependenceAnswer.{DependenceAnswer}
+use Rattle.verdict_answers.specs.declared.Refusal.{Refusal}
+use Rattle.verdict_answers.specs.declared.DependsOn.{DependsOn}
 use Rattle.verdict_answers.specs.Answers.{notion_of, set_dependence}
 use Rattle.verdict_answers.specs.Conditions.{WrongNotion}
 
@@ -25,11 +26,11 @@ pub record SetAsked (table : List ℕ) (shares masks notion : ℕ) (set : List �
   pub distinct : rising set ≡ true
   pub within : below (wire_count table) set ≡ true
 
-pub record DependenceMeans (answer : DependenceAnswer) (table : List ℕ) (shares masks notion : ℕ) (set : List ℕ) : Type 0 where
-  pub depends : (of_a of_b most : ℕ) (left : Bool) → answer ≡ DependenceAnswer.Depends of_a of_b most left
-      → SetDepends (notion_of notion) shares masks (map (wire_at table) set) of_a of_b most left
-  pub breaks-exactly : (of_a of_b most : ℕ) (left : Bool) → answer ≡ DependenceAnswer.Depends of_a of_b most left
-      → (is_breaking (notion_of notion) table shares masks set ≡ true) ↔ ((left ≡ false) × ((most < of_a) ⊎ (most < of_b)))
+pub record DependenceMeans (answer : Result DependsOn Refusal) (table : List ℕ) (shares masks notion : ℕ) (set : List ℕ) : Type 0 where
+  pub depends : (on : DependsOn) → answer ≡ Ok on
+      → SetDepends (notion_of notion) shares masks (map (wire_at table) set) on.of_a on.of_b on.allowed on.masked
+  pub breaks-exactly : (on : DependsOn) → answer ≡ Ok on
+      → (is_breaking (notion_of notion) table shares masks set ≡ true) ↔ ((on.masked ≡ false) × ((on.allowed < on.of_a) ⊎ (on.allowed < on.of_b)))
 
 abbrev pub LeaksA : List ℕ → ℕ → ℕ → ℕ → List ℕ → Type 0
 LeaksA table shares masks notion set = ChoiceByA (notion_of notion) shares masks (map (wire_at table) set) → ⊥

@@ -5,12 +5,12 @@
 --     VerdictFinds       holds: no set to watch breaks, and the buffer is as it was; broken: the set shown is the first that does, and the buffer
 --                        past it is as it was; refused: the buffer is as it was
 --     RangeFinds         the same for a range, with the size asked for and the rank
-use Rattle.std.specs.Prelude.{ℕ, ◌≤◌, ◌<◌, ◌≡◌, ◌⊎◌, true, false, List, length, take, drop}
+use Rattle.std.specs.Prelude.{ℕ, ◌≤◌, ◌<◌, ◌≡◌, ◌⊎◌, true, false, List, length, take, drop, Result, Ok, Err}
 use Rattle.records.specs.Layout.{wire_count}
 use Rattle.revolving.specs.Order.{set_at, rank_of}
 use Rattle.verdict_answers.specs.declared.Refusal.{Refusal}
-use Rattle.verdict_answers.specs.declared.VerdictAnswer.{VerdictAnswer}
-use Rattle.verdict_answers.specs.declared.RangeAnswer.{RangeAnswer}
+use Rattle.verdict_answers.specs.declared.Judged.{Judged}
+use Rattle.verdict_answers.specs.declared.Checked.{Checked}
 use Rattle.breaking.specs.Breaking.{is_breaking}
 use Rattle.verdict_answers.specs.Answers.{notion_of}
 use Rattle.verdict_answers.specs.Guarantee.{Watched}
@@ -30,17 +30,17 @@ pub record FirstInRange (table : List ℕ) (shares masks notion size from to : �
   pub breaking : is_breaking (notion_of notion) table shares masks set ≡ true
   pub first : (r : ℕ) → from ≤ r → r < rank → is_breaking (notion_of notion) table shares masks (set_at (wire_count table) size r) ≡ false
 
-pub record VerdictFinds (answer : VerdictAnswer) (table : List ℕ) (shares masks notion order : ℕ) (buffer held : List ℕ) : Type 0 where
-  pub holds : answer ≡ VerdictAnswer.Holds
+pub record VerdictFinds (answer : Result Judged Refusal) (table : List ℕ) (shares masks notion order : ℕ) (buffer held : List ℕ) : Type 0 where
+  pub holds : answer ≡ Ok Judged.Holds
       → (held ≡ buffer) × ((u : List ℕ) → Watched table order u → is_breaking (notion_of notion) table shares masks u ≡ false)
-  pub broken : (size : ℕ) → answer ≡ VerdictAnswer.Broken size
+  pub broken : (size : ℕ) → answer ≡ Ok (Judged.Broken size)
       → (drop size held ≡ drop size buffer) × FirstBreaking table shares masks notion order (take size held)
-  pub refused : (why : Refusal) → answer ≡ VerdictAnswer.Refused why → held ≡ buffer
+  pub refused : (why : Refusal) → answer ≡ Err why → held ≡ buffer
 
-pub record RangeFinds (answer : RangeAnswer) (table : List ℕ) (shares masks notion size from to : ℕ) (buffer held : List ℕ) : Type 0 where
-  pub clean : answer ≡ RangeAnswer.Clean
+pub record RangeFinds (answer : Result Checked Refusal) (table : List ℕ) (shares masks notion size from to : ℕ) (buffer held : List ℕ) : Type 0 where
+  pub clean : answer ≡ Ok Checked.Clean
       → (held ≡ buffer)
       × ((r : ℕ) → from ≤ r → r < to → is_breaking (notion_of notion) table shares masks (set_at (wire_count table) size r) ≡ false)
-  pub found : (k rank : ℕ) → answer ≡ RangeAnswer.Found k rank
+  pub found : (k rank : ℕ) → answer ≡ Ok (Checked.Found k rank)
       → (k ≡ size) × (drop size held ≡ drop size buffer) × FirstInRange table shares masks notion size from to (take size held) rank
-  pub refused : (why : Refusal) → answer ≡ RangeAnswer.Refused why → held ≡ buffer
+  pub refused : (why : Refusal) → answer ≡ Err why → held ≡ buffer

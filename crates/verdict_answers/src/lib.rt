@@ -5,6 +5,7 @@
 
 ghost use Rattle.std.specs.Prelude.{◌≡◌};
 ghost use Rattle.verdict_answers.specs.Answers.{refusal_number};
+ghost use Rattle.verdict_answers.specs.declared.Refusal.TheVariants.{Table, NoSuchNotion};
 
 // Why an entry turns its arguments down.
 #[derive(Clone, Copy)]
@@ -35,30 +36,41 @@ impl Refusal {
     }
 }
 
-// Broken gives the size of the set that is written.
+impl From<table::Refusal> for Refusal {
+    ghost from_gives = { λ why e. e ≡ Table why };
+
+    fn from(why: table::Refusal) -> Refusal {
+        Refusal::Table(why)
+    }
+}
+
+impl From<wires::NoSuchNotion> for Refusal {
+    ghost from_gives = { λ _ e. e ≡ NoSuchNotion };
+
+    fn from(_none: wires::NoSuchNotion) -> Refusal {
+        Refusal::NoSuchNotion
+    }
+}
+
+// Of a verdict: broken gives the size of the set that is written.
 #[derive(Clone, Copy)]
-pub enum VerdictAnswer {
+pub enum Judged {
     Holds,
     Broken { size: usize },
-    Refused(Refusal),
 }
 
-// Found gives the size of the set that is written, and its rank.
+// Of a range check: found gives the size of the set that is written, and its rank.
 #[derive(Clone, Copy)]
-pub enum RangeAnswer {
+pub enum Checked {
     Clean,
     Found { size: usize, rank: u64 },
-    Refused(Refusal),
 }
 
-// On how many shares of a and of b the set depends, how many of each the notion allows it, and whether a mask is left in its sum.
+// On how many shares of a and of b a set depends, how many of each the notion allows it, and whether a mask is left in its sum.
 #[derive(Clone, Copy)]
-pub enum DependenceAnswer {
-    Depends {
-        of_a: usize,
-        of_b: usize,
-        allowed: usize,
-        masked: bool,
-    },
-    Refused(Refusal),
+pub struct DependsOn {
+    pub of_a: usize,
+    pub of_b: usize,
+    pub allowed: usize,
+    pub masked: bool,
 }

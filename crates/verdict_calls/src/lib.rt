@@ -6,12 +6,11 @@ ghost use Rattle.verdict_answers.specs.Answers.{verdict_of};
 ghost use Rattle.call_answers.specs.Calls.{got, lent_judged};
 ghost use Rattle.call_answers.specs.Meaning.{Kept, VerdictSays, VerdictShows};
 
-use judging::{Way, judge};
-use verdict_answers::VerdictAnswer;
+use judging::{Directed, Search, Walk, judge};
+use verdict_answers::Judged;
 
 // Whether a table holds a notion at an order, by either search.
-fn judged(
-    way: Way,
+fn judged<S: Search>(
     table: &[u8],
     shares: usize,
     masks: usize,
@@ -26,22 +25,22 @@ fn judged(
     ensures verdict_shows { VerdictShows result holds.new size.new table.now shares masks notion order set.old set.new }
     ensures verdict_says { VerdictSays result holds.new size.new table.now shares masks notion order set.new }
 {
-    let answer = judge(way, table, shares, masks, notion, order, set);
-    match answer {
-        VerdictAnswer::Refused(why) => why.number(),
-        VerdictAnswer::Holds => {
+    match judge::<S>(table, shares, masks, notion, order, set) {
+        Ok(Judged::Holds) => {
             *holds = 1;
             0
         }
-        VerdictAnswer::Broken { size: wires } => {
+        Ok(Judged::Broken { size: wires }) => {
             *holds = 0;
             *size = wires;
             0
         }
+        Err(why) => why.number(),
     }
 }
 
 // The verdict, by nested loops over size and rank.
+// kept: C has a function for each search, and takes no type parameter (calduvren::calduvren_verdict)
 pub fn verdict(
     table: &[u8],
     shares: usize,
@@ -57,17 +56,7 @@ pub fn verdict(
     ensures verdict_shows { VerdictShows result holds.new size.new table.now shares masks notion order set.old set.new }
     ensures verdict_says { VerdictSays result holds.new size.new table.now shares masks notion order set.new }
 {
-    judged(
-        Way::Walk,
-        table,
-        shares,
-        masks,
-        notion,
-        order,
-        set,
-        holds,
-        size,
-    )
+    judged::<Walk>(table, shares, masks, notion, order, set, holds, size)
 }
 
 // The verdict by the directed search.
@@ -86,15 +75,5 @@ pub fn directed_verdict(
     ensures verdict_shows { VerdictShows result holds.new size.new table.now shares masks notion order set.old set.new }
     ensures verdict_says { VerdictSays result holds.new size.new table.now shares masks notion order set.new }
 {
-    judged(
-        Way::Directed,
-        table,
-        shares,
-        masks,
-        notion,
-        order,
-        set,
-        holds,
-        size,
-    )
+    judged::<Directed>(table, shares, masks, notion, order, set, holds, size)
 }

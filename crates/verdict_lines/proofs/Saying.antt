@@ -10,10 +10,11 @@ use mathlib.Core.Bool.{Bool, cond}
 use mathlib.Core.List.{List, [], ◌∷◌, ◌++◌}
 use borrow.Author.Tests.{eq-eqb, ne_eqb}
 use lib.ListN.{length, take}
+use Rattle.std.specs.Prelude.{Result, Ok, Err}
 use Rattle.basics.specs.Quoted.{bytes}
 use Rattle.basics.specs.Told.{Told, Lent}
 use Rattle.verdict_answers.specs.declared.Refusal.{Refusal}
-use Rattle.verdict_answers.specs.declared.VerdictAnswer.{VerdictAnswer}
+use Rattle.verdict_answers.specs.declared.Judged.{Judged}
 use Rattle.verdict_answers.specs.Answers as verdicts
 use Rattle.verdict_answers.specs.Guarantee.{Guarantee}
 use Rattle.pages.specs.Decimal.{decimal}
@@ -33,27 +34,30 @@ take-few zero l = omega arith
 take-few (suc n) [] = omega arith
 take-few (suc n) (x ∷ l) = let h = take-few n l in omega (arith, h)
 
-module _ (answer : VerdictAnswer) (held : List ℕ) where
-  pub shown-few : (table : List ℕ) (shares masks notion order size : ℕ) → answer ≡ VerdictAnswer.Broken size
+module _ (answer : Result Judged Refusal) (held : List ℕ) where
+  pub shown-few : (table : List ℕ) (shares masks notion order size : ℕ) (judged : Judged) → answer ≡ Ok judged → judged ≡ Judged.Broken size
       → Guarantee answer table shares masks notion order held → size ≤ length held
-  shown-few table shares masks notion order size e g = omega (arith, (g.broken-shows size e).whole, take-few size held)
+  shown-few table shares masks notion order size judged e f g =
+      let broken : answer ≡ Ok (Judged.Broken size) = e ∙ ap (λ (j : Judged). Ok j) f in
+      omega (arith, (g.broken-shows size broken).whole, take-few size held)
 
-module _ (depends : List ℕ → Told) (answer : VerdictAnswer) (held : List ℕ) (lent : Lent) (told : verdicts.verdict_told answer held ≡ lent) where
+module _ (depends : List ℕ → Told) (answer : Result Judged Refusal) (held : List ℕ) (lent : Lent) (told : verdicts.verdict_told answer held ≡ lent) where
   module _ (page : List ℕ) (at : ℕ) (after : List ℕ) (end : ℕ) where
-    told-said : (of : VerdictAnswer) → answer ≡ of → Wrote page at (verdict_said depends (verdicts.verdict_told of held)) after end
+    told-said : (of : Result Judged Refusal) → answer ≡ of → Wrote page at (verdict_said depends (verdicts.verdict_told of held)) after end
         → Wrote page at (verdict_said depends lent) after end
     told-said of e w =
-        subst (λ (l : Lent). Wrote page at (verdict_said depends l) after end) (ap (λ (a : VerdictAnswer). verdicts.verdict_told a held) (sym e) ∙ told) w
+        subst (λ (l : Lent). Wrote page at (verdict_said depends l) after end) (ap (λ (a : Result Judged Refusal). verdicts.verdict_told a held) (sym e) ∙ told) w
 
-    pub holds-said : answer ≡ VerdictAnswer.Holds → Wrote page at (bytes " holds") after end → Wrote page at (verdict_said depends lent) after end
-    holds-said e w = told-said VerdictAnswer.Holds e w
-
-    pub broken-said : (size : ℕ) → answer ≡ VerdictAnswer.Broken size → Wrote page at (broken_said depends (take (size - 0) held)) after end
+    pub holds-said : (judged : Judged) → answer ≡ Ok judged → judged ≡ Judged.Holds → Wrote page at (bytes " holds") after end
         → Wrote page at (verdict_said depends lent) after end
-    broken-said size e w =
-        told-said (VerdictAnswer.Broken size) e (subst (λ (l : List ℕ). Wrote page at (broken_said depends l) after end) (part-start size held) w)
+    holds-said judged e f w = told-said (Ok Judged.Holds) (e ∙ ap (λ (j : Judged). Ok j) f) w
 
-    pub refused-said : (why : Refusal) (number : ℕ) → answer ≡ VerdictAnswer.Refused why → number ≡ verdicts.refusal_number why
+    pub broken-said : (size : ℕ) (judged : Judged) → answer ≡ Ok judged → judged ≡ Judged.Broken size → Wrote page at (broken_said depends (take (size - 0) held)) after end
+        → Wrote page at (verdict_said depends lent) after end
+    broken-said size judged e f w =
+        told-said (Ok (Judged.Broken size)) (e ∙ ap (λ (j : Judged). Ok j) f) (subst (λ (l : List ℕ). Wrote page at (broken_said depends l) after end) (part-start size held) w)
+
+    pub refused-said : (why : Refusal) (number : ℕ) → answer ≡ Err why → number ≡ verdicts.refusal_number why
         → Wrote page at (bytes " refused " ++ decimal number) after end → Wrote page at (verdict_said depends lent) after end
     refused-said why number e f w =
-        told-said (VerdictAnswer.Refused why) e (subst (λ (n : ℕ). Wrote page at (bytes " refused " ++ decimal n) after end) f w)
+        told-said (Err why) e (subst (λ (n : ℕ). Wrote page at (bytes " refused " ++ decimal n) after end) f w)

@@ -10,9 +10,10 @@ ghost use Rattle.verdict_lines.specs.Lines.{notion_name, empty_set, broken_said,
 use limits::MAX_SIZE;
 use operand_words::operands_said;
 use pages::{write_named, write_text, write_wires};
-use verdict_answers::VerdictAnswer;
+use verdict_answers::Judged;
 
 // The verdict for NI, 1, or SNI, 2, at an order.
+// kept: the numbers 1 and 2 come from C, and the clause `wrote` says the line of any number
 pub fn notion_line(
     page: &mut [u8],
     at: usize,
@@ -59,11 +60,13 @@ fn verdict_said(
     let mut set = [0u16; MAX_SIZE];
     let answer = directed::directed_verdict(table, shares, masks, notion, order, &mut set);
     match answer {
-        VerdictAnswer::Holds => write_text(page, at, b" holds"),
-        VerdictAnswer::Broken { size } => {
-            broken_said(page, at, table, shares, masks, notion, &set[0..size])
-        }
-        VerdictAnswer::Refused(why) => write_named(page, at, b" refused ", why.number() as usize),
+        Ok(judged) => match judged {
+            Judged::Holds => write_text(page, at, b" holds"),
+            Judged::Broken { size } => {
+                broken_said(page, at, table, shares, masks, notion, &set[0..size])
+            }
+        },
+        Err(why) => write_named(page, at, b" refused ", why.number() as usize),
     }
 }
 

@@ -36,8 +36,7 @@ fn climb(wires: usize, set: &mut [u16]) -> Exchange
 {
     // whether the wires up to `below` were to rise, and could not
     let mut rising = set.len() % 2 == 1;
-    let mut below = 0;
-    while below + 1 < set.len() {
+    for below in 0..set.len() - 1 {
         let place = below + 1;
         let wire = set[place] as usize;
         if rising {
@@ -59,13 +58,9 @@ fn climb(wires: usize, set: &mut [u16]) -> Exchange
             };
         }
         rising = !rising;
-        below = place;
     }
-    // not reached: the set would be the last
-    Exchange {
-        leaves: 0,
-        enters: 0,
-    }
+    // the set would be the last
+    unreachable!()
 }
 
 // How many steps in a row move the lowest wire alone, by one each.

@@ -1,20 +1,22 @@
--- `breaking::payers` meets its contract: after i wires the count is that of those that pay among them.
+-- `breaking::payers` meets its contract: after each wire the count is that of those that pay among them.
 use Prim.Native.Nat.{zero-le}
 use native.Mathlib.Omega.{arith}
 use mathlib.Core.Path.{refl}
-use borrow.Author.Rules.{rules}
 use Rattle.records.proofs.Adding.{set-inside}
 use Rattle.breaking.proofs.Paying.{payers_more, whole-count}
 use Rattle.breaking.proofs.payers.Goals as goal
 
-pub loop-i-init : goal.loop-i-init
-loop-i-init c = (zero-le, zero-le, refl)
+pub loop-wire-init : goal.loop-wire-init
+loop-wire-init c = (zero-le, refl)
 
 pub pay-count-requires : goal.pay-count-requires
-pay-count-requires c = set-inside _ _ _ c.requires c.loop-i-test.true
+pay-count-requires c = rw c.from.ensures (set-inside _ _ _ c.requires (omega arith))
 
-pub loop-i-preserved : goal.loop-i-preserved
-loop-i-preserved c = (search rules, omega (arith, c.pay-count.ensures.1, c.loop-i.invariant.1), payers_more c.args.notion _ _ _ _ _ c.loop-i-test.true c.loop-i.invariant.2 c.pay-count.ensures.0)
+pub loop-wire-preserved : goal.loop-wire-preserved
+loop-wire-preserved c = (
+  omega (arith, c.pay-count.ensures.1, c.loop-wire.invariant.0),
+  payers_more c.args.notion _ _ _ _ _ (omega arith) c.loop-wire.invariant.1 (rw c.from.ensures at c.pay-count.ensures.0),
+)
 
 pub returns : goal.returns
-returns c = whole-count c.args.notion _ _ _ _ c.loop-i-test.false c.loop-i.invariant.2
+returns c = whole-count c.args.notion _ _ _ _ (omega arith) c.loop-wire.invariant.1

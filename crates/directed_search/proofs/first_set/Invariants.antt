@@ -1,4 +1,4 @@
-use Prim.Native.Nat.{◌+◌, ◌-◌, ◌≤◌}
+use Prim.Native.Nat.{◌+◌, ◌≤◌}
 use mathlib.Core.Path.{◌≡◌}
 use lib.ListN.{length}
 use Rattle.limits.specs.Limits.{max_shares, max_masks}
@@ -10,6 +10,3 @@ use Rattle.directed_search.proofs.first_set.Given as goal
 abbrev pub invariant-loop-size : goal.invariant-loop-size
 invariant-loop-size l =
     Smaller (is_breaking l.notion l.table max_shares max_masks) (wire_count l.table) l.size × (length l.probes ≡ length l.initial.probes) × (1 ≤ l.size) × (l.size ≤ l.order + 1)
-
-abbrev pub decreases-loop-size : goal.decreases-loop-size
-decreases-loop-size l = l.order + 1 - l.size

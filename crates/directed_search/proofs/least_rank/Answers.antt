@@ -47,4 +47,4 @@ loop-top-preserved c =
     )
 
 pub returns : goal.returns
-returns c = let i = c.loop-top.invariant in all_done _ _ _ _ _ i.1 c.loop-top-test.false i.2 c.count-none.ensures
+returns c = let i = c.loop-top.invariant in all_done _ _ _ _ i.1 c.loop-top-test.false i.2

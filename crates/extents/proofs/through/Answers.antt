@@ -2,8 +2,8 @@
 use Rattle.extents.proofs.Extents.{onward_none, onward_join}
 use Rattle.extents.proofs.through.Goals as goal
 
-pub loop-i-init : goal.loop-i-init
-loop-i-init c = onward_none _ _ _
+pub loop-kept-init : goal.loop-kept-init
+loop-kept-init c = onward_none _ _ _
 
-pub loop-i-preserved : goal.loop-i-preserved
-loop-i-preserved c = onward_join _ _ _ _ _ c.loop-i.invariant c.extended-reach.ensures.onward
+pub loop-kept-preserved : goal.loop-kept-preserved
+loop-kept-preserved c = onward_join _ _ _ _ _ c.loop-kept.invariant c.extended-reach.ensures.onward

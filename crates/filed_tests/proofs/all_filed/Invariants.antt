@@ -1,10 +1,6 @@
-use Prim.Native.Nat.{◌-◌, ◌≤◌}
 use Rattle.counts.specs.Counts.{binom}
 use Rattle.filed_tests.proofs.Testing.{Passed}
 use Rattle.filed_tests.proofs.all_filed.Given as goal
 
 abbrev pub invariant-loop-i : goal.invariant-loop-i
-invariant-loop-i l = Passed (binom l.wires) l.notion l.order l.reports l.i × (l.i ≤ l.number)
-
-abbrev pub decreases-loop-i : goal.decreases-loop-i
-decreases-loop-i l = l.number - l.i
+invariant-loop-i l = Passed (binom l.wires) l.notion l.order l.reports l.i

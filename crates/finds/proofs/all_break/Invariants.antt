@@ -1,4 +1,3 @@
-use Prim.Native.Nat.{◌-◌, ◌≤◌}
 use Rattle.limits.specs.Limits.{max_shares, max_masks}
 use Rattle.records.specs.Layout.{wire_count}
 use Rattle.breaking.specs.Breaking.{is_breaking}
@@ -6,7 +5,4 @@ use Rattle.finds.proofs.Breaking.{Passed}
 use Rattle.finds.proofs.all_break.Given as goal
 
 abbrev pub invariant-loop-next : goal.invariant-loop-next
-invariant-loop-next l = Passed (is_breaking l.notion l.table max_shares max_masks) (wire_count l.table) l.reports l.next × (l.next ≤ l.number)
-
-abbrev pub decreases-loop-next : goal.decreases-loop-next
-decreases-loop-next l = l.number - l.next
+invariant-loop-next l = Passed (is_breaking l.notion l.table max_shares max_masks) (wire_count l.table) l.reports l.next

@@ -1,4 +1,5 @@
 -- `groups::group` and `groups::item` meet their contracts: where the run stands before each turn, and what the other reader gave.
+use Rattle.std.proofs.lemmas.Result.{err_from_is_err_and}
 use native.Mathlib.Omega.{arith}
 use mathlib.Core.Path.{subst}
 use Prim.Native.Nat.{◌-◌}
@@ -21,12 +22,6 @@ group-returns-then-byte-eq-LINE_END t c =
     let l = c.loop-at in
     gone-ended a.shares a.declared a.text.now a.room a.table.now a.progress l.table l.here l.at l.invariant.0
     (ends-line _ _ c.if-byte-eq-LINE_END.true)
-
-pub group-returns-in-Stopped : goal.group-returns-in-Stopped
-group-returns-in-Stopped t c =
-    let a = c.args in
-    let l = c.loop-at in
-    gone_stopped a.shares a.declared a.text.now a.room a.table.now a.progress l.table l.here l.at l.invariant.0 _ _ c.in-Stopped.ensures
 
 pub group-loop-at-preserved-then-byte-eq32 : goal.group-loop-at-preserved-then-byte-eq32
 group-loop-at-preserved-then-byte-eq32 t c =
@@ -59,22 +54,33 @@ item-returns-then-room-eq0 t c =
     let pre = c.requires.within in
     item_deep a.shares a.declared a.text.now a.room a.table.now a.progress pre.1 pre.2 c.if-byte-ne40.false c.if-room-eq0.true
 
-pub item-returns-in-Stopped : goal.item-returns-in-Stopped
-item-returns-in-Stopped t c =
+pub group-returns-in_err-here : goal.group-returns-in_err-here
+group-returns-in_err-here t c =
+    let a = c.args in
+    let l = c.loop-at in
+    let p = err_from_is_err_and c.from_residual.result c.from_residual.ensures.1 in
+    rw (p.1, p.2)
+    (gone_stopped a.shares a.declared a.text.now a.room a.table.now a.progress l.table l.here l.at l.invariant.0 _ _ c.in_err-here.ensures)
+
+pub item-returns-in_err-inner : goal.item-returns-in_err-inner
+item-returns-in_err-inner t c =
     let a = c.args in
     let pre = c.requires.within in
-    inside_stopped a.shares a.declared a.text.now a.room a.table.now a.progress pre.1 pre.2 c.if-byte-ne40.false c.if-room-eq0.false _ _
-    (subst (λ (p : Progress). Stops a.shares a.declared a.text.now (a.room - 1) a.table.now p c.in-Stopped.why c.in-Stopped.offset)
-    c.enter.ensures c.in-Stopped.ensures)
+    let fault = c.in_err-inner.field-0.0 in
+    let p = err_from_is_err_and c.from_residual.result c.from_residual.ensures.1 in
+    rw (p.1, p.2)
+    (inside_stopped a.shares a.declared a.text.now a.room a.table.now a.progress pre.1 pre.2 c.if-byte-ne40.false c.if-room-eq0.false _ _
+    (subst (λ (q : Progress). Stops a.shares a.declared a.text.now (a.room - 1) a.table.now q fault.why fault.offset)
+    c.enter.ensures c.in_err-inner.ensures))
 
-pub item-returns-in-Went : goal.item-returns-in-Went
-item-returns-in-Went t c =
+pub item-returns : goal.item-returns
+item-returns t c =
     let a = c.args in
     let pre = c.requires.within in
     let w = subst
-    (λ (p : Progress). GroupWent a.shares a.declared a.text.now (a.room - 1) a.table.now p c.group-inside.new.table c.in-Went.inner)
-    c.enter.ensures c.in-Went.ensures
+    (λ (p : Progress). GroupWent a.shares a.declared a.text.now (a.room - 1) a.table.now p c.group.new.table c.in_ok-inner.inner)
+    c.enter.ensures c.in_ok-inner.ensures
     in
     inside-closed a.shares a.declared a.text.now a.room a.table.now a.progress pre.1 pre.2 c.if-byte-ne40.false c.if-room-eq0.false
-    c.group-inside.new.table c.close.new.table _ c.close.result w
+    c.group.new.table c.close.new.table _ c.close.result w
     (c.close.ensures a.shares a.declared (omega (arith, w.same_lines, pre.2)))

@@ -11,9 +11,6 @@ returns-then-not-stands c = sym (masks-word c.args.text.now c.args.from (sym c.s
 pub stands-requires-2 : goal.stands-requires-2
 stands-requires-2 c = stands-fits _ masks_word _ c.requires (sym c.stands.ensures ∙ c.if-not-stands.false)
 
-pub closing-requires : goal.closing-requires
-closing-requires c = stands-fits _ masks_word _ c.requires (sym c.stands.ensures ∙ c.if-not-stands.false)
-
 pub names-requires : goal.names-requires
 names-requires c = stands-fits _ masks_word _ c.requires (sym c.stands.ensures ∙ c.if-not-stands.false)
 

@@ -1,37 +1,18 @@
--- `opening::opening` meets its contract: the tests' refusal, or the notion of the number, or 14.
-use mathlib.Core.Path.{sym, ◌∙◌, ap}
-use borrow.Author.Rules.{rules}
+-- `opening::opening` meets its contract: after the table's tests the notion of the number, or 14.
+use mathlib.Core.Path.{sym}
+use Rattle.std.proofs.lemmas.Result.{err_from_is_err_and}
 use Rattle.wires.specs.declared.Notion.TheVariants.{Ni, Sni}
-use Rattle.table.specs.Answers.{table_told}
-use Rattle.opening.specs.Opening.{notion_number}
-use Rattle.opening.proofs.Admitting.{open_refused, open_known, open_wrong}
+use Rattle.opening.proofs.Admitting.{open_known, open_wrong}
 use Rattle.opening.proofs.opening.Goals as goal
 
-pub returns-in-Refused : goal.returns-in-Refused
-returns-in-Refused c =
+pub returns : goal.returns
+returns c =
     let a = c.args in
-    open_refused a.table.now a.shares a.masks a.notion _ (ap table_told (sym c.in-Refused.is)
-    ∙ c.table_check-tested.ensures)
+    open_known a.table.now a.shares a.masks a.notion c.in_ok-table_check.ensures _ (sym c.in_ok-try_from.ensures)
 
-pub returns-in-1 : goal.returns-in-1
-unfolding notion_number
-returns-in-1 c =
+pub returns-in_err-try_from : goal.returns-in_err-try_from
+returns-in_err-try_from c =
     let a = c.args in
-    open_known a.table.now a.shares a.masks a.notion
-    (ap table_told (sym c.in-Accepted.is) ∙ c.table_check-tested.ensures)
-    Ni c.in-1.is
-
-pub returns-in-2 : goal.returns-in-2
-unfolding notion_number
-returns-in-2 c =
-    let a = c.args in
-    open_known a.table.now a.shares a.masks a.notion
-    (ap table_told (sym c.in-Accepted.is) ∙ c.table_check-tested.ensures)
-    Sni c.in-2.is
-
-pub returns-in_default : goal.returns-in_default
-returns-in_default c =
-    let a = c.args in
-    open_wrong a.table.now a.shares a.masks a.notion
-    (ap table_told (sym c.in-Accepted.is) ∙ c.table_check-tested.ensures)
-    (search rules) (search rules)
+    let p = err_from_is_err_and c.from_residual-in_err-try_from.result c.from_residual-in_err-try_from.ensures.1 in
+    rw (p.1, p.2) (open_wrong a.table.now a.shares a.masks a.notion c.in_ok-table_check.ensures
+    (λ e. c.in_err-try_from.ensures Ni (sym e)) (λ e. c.in_err-try_from.ensures Sni (sym e)))

@@ -2,8 +2,7 @@
 use native.Mathlib.Omega.{arith}
 use mathlib.Core.Path.{subst}
 use Prim.Native.Nat.{ℕ}
-use Rattle.groups.specs.Going.{GroupReads, GroupWent}
-use Rattle.groups.specs.declared.Answer.{Answer}
+use Rattle.std.proofs.lemmas.Result.{err_from_is_err_and}
 use Rattle.output_lines.specs.Going.{LineReads}
 use Rattle.output_lines.proofs.Outputs.{line_stopped, line-finished}
 use borrow.Author.Rules.{rules}
@@ -16,19 +15,14 @@ returns-then-progress-shares c =
     c.if-progress-shares.true
     (c.line_over.ensures a.declared a.table.now)
 
-pub group-read-requires : goal.group-read-requires
-group-read-requires c =
+pub group-requires : goal.group-requires
+group-requires c =
     let pre = c.requires in record { sized = pre.sized; within = (pre.within.0, omega (arith, pre.within.1, c.if-progress-shares.false), omega arith) }
 
 pub finish_line-requires : goal.finish_line-requires
 finish_line-requires c =
-    let a = c.args in
     let pre = c.requires in
-    let w : GroupWent a.shares a.declared a.text.now 16 a.table.now a.progress
-    c.group-read.new.table c.in-Went.done =
-    subst (λ (r : Answer). GroupReads a.shares a.declared a.text.now 16 a.table.now a.progress
-    c.group-read.new.table r)
-    c.in-Went.is c.group-read.ensures in record {
+    let w = c.in_ok-done.ensures in record {
       text_len_bound = (pre.sized.text_size, search rules);
       within = (
         w.within,
@@ -38,28 +32,20 @@ finish_line-requires c =
       );
     }
 
-pub returns-in-Stopped : goal.returns-in-Stopped
-returns-in-Stopped c =
+pub returns-in_err-done : goal.returns-in_err-done
+returns-in_err-done c =
     let a = c.args in
-    line_stopped a.shares a.declared a.text.now a.table.now a.progress
-    c.group-read.new.table _ _
-    (subst (λ (r : Answer). GroupReads a.shares a.declared a.text.now 16 a.table.now a.progress
-    c.group-read.new.table r)
-    c.in-Stopped.is c.group-read.ensures)
+    let p = err_from_is_err_and c.from_residual.result c.from_residual.ensures.1 in
+    rw (p.1, p.2)
+    (line_stopped a.shares a.declared a.text.now a.table.now a.progress c.group.new.table c.in_err-done.field-0.0 c.in_err-done.ensures)
 
-pub returns-in-Went : goal.returns-in-Went
-returns-in-Went c =
+pub returns : goal.returns
+returns c =
     let a = c.args in
     let pre = c.requires in
-    let w : GroupWent a.shares a.declared a.text.now 16 a.table.now a.progress
-    c.group-read.new.table
-    c.in-Went.done =
-    subst (λ (r : Answer). GroupReads a.shares a.declared a.text.now 16 a.table.now a.progress
-    c.group-read.new.table r)
-    c.in-Went.is
-    c.group-read.ensures in
+    let w = c.in_ok-done.ensures in
     line-finished a.shares a.declared a.text.now a.table.now a.progress
-    c.group-read.new.table c.finish_line.new.table _
+    c.group.new.table c.finish_line.new.table _
     c.finish_line.result w
     (c.finish_line.ensures a.shares a.declared
     (omega (arith, w.same_lines, pre.within.1, c.if-progress-shares.false)))

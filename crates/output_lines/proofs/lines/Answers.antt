@@ -1,40 +1,32 @@
 -- `output_lines::lines` meets its contract: before each line the run stands where the reading has come.
 use native.Mathlib.Omega.{arith}
-use mathlib.Core.Path.{refl, ◌∙◌, subst}
+use mathlib.Core.Path.{refl, ◌∙◌}
 use borrow.Author.Rules.{rules}
-use Rattle.groups.specs.declared.Answer.{Answer}
-use Rattle.output_lines.specs.Going.{LineReads, LineWent}
+use Rattle.std.proofs.lemmas.Result.{err_from_is_err_and}
 use Rattle.output_lines.proofs.Outputs.{past_start, past_line, past_stopped, past_few, past_all}
 use Rattle.output_lines.proofs.lines.Goals as goal
 
 pub loop-at-init : goal.loop-at-init
 loop-at-init c = (past_start _ _ _ _ _ _ c.requires.from_in_bounds c.begin-here.ensures, refl)
 
-pub line-read-requires : goal.line-read-requires
-line-read-requires c =
+pub line-requires : goal.line-requires
+line-requires c =
     let pre = c.requires in
     let l = c.loop-at in
     let g = l.invariant.0 in record { sized = record { text_size = pre.sized.text_size; table_size = l.invariant.1 ∙ pre.sized.table_size; most = pre.sized.most }; within = (g.within, g.most-lines, g.blank) }
 
-pub returns-in-Stopped : goal.returns-in-Stopped
-returns-in-Stopped c =
+pub returns-in_err-here : goal.returns-in_err-here
+returns-in_err-here c =
     let a = c.args in
     let l = c.loop-at in
-    past_stopped a.shares a.declared a.text.now a.from l.table l.here l.at l.invariant.0
-    c.line-read.new.table _ _
-    (subst (λ (r : Answer). LineReads a.shares a.declared a.text.now l.table l.here
-    c.line-read.new.table r) c.in-Stopped.is
-    c.line-read.ensures)
+    let p = err_from_is_err_and c.from_residual.result c.from_residual.ensures.1 in
+    rw (p.1, p.2)
+    (past_stopped a.shares a.declared a.text.now a.from l.table l.here l.at l.invariant.0 c.line.new.table c.in_err-here.field-0.0 c.in_err-here.ensures)
 
 pub loop-at-smaller : goal.loop-at-smaller
 loop-at-smaller c =
-    let a = c.args in
     let l = c.loop-at in
-    let w : LineWent a.shares a.declared a.text.now l.table l.here c.line-read.new.table
-    c.in-Went.next =
-    subst (λ (r : Answer). LineReads a.shares a.declared a.text.now l.table l.here
-    c.line-read.new.table r) c.in-Went.is
-    c.line-read.ensures in
+    let w = c.in_ok-here.ensures in
     let place = l.invariant.0.place in
     let more = w.forward.1 (omega (arith, c.loop-at-test.true, place)) in
     omega (arith, more, c.loop-at-test.true, place)
@@ -43,10 +35,7 @@ pub loop-at-preserved : goal.loop-at-preserved
 loop-at-preserved c =
     let a = c.args in
     let l = c.loop-at in (
-      past_line a.shares a.declared a.text.now a.from l.table l.here l.at l.invariant.0 _ _
-          (subst (λ (r : Answer). LineReads a.shares a.declared a.text.now l.table l.here
-          c.line-read.new.table r) c.in-Went.is
-          c.line-read.ensures),
+      past_line a.shares a.declared a.text.now a.from l.table l.here l.at l.invariant.0 _ _ c.in_ok-here.ensures,
       search rules,
     )
 

@@ -7,4 +7,4 @@ pub returns-then-has_mask : goal.returns-then-has_mask
 returns-then-has_mask c = (search rules, sym c.has_mask.ensures ∙ c.if-has_mask.true)
 
 pub returns : goal.returns
-returns c = c.lowest.ensures
+returns c = c.lowest_mask.ensures

@@ -2,13 +2,11 @@
 use Prim.Native.Nat.{ℕ, ◌+◌}
 use native.Mathlib.Nat.{add_comm}
 use mathlib.Core.Path.{refl, sym, ◌∙◌, ap}
-use Rattle.reader.specs.Answers.{part_told}
 use Rattle.reader.proofs.Parts.{part-told, start-told}
 use Rattle.reader.proofs.text_part.Goals as goal
 
-pub returns-in-Refused : goal.returns-in-Refused
-returns-in-Refused c =
+pub returns-in-Err : goal.returns-in-Err
+returns-in-Err c =
     let a = c.args in
-    let check = c.text_part_check-found in
-    let no = sym check.ensures ∙ ap part_told c.in-Refused.is in
+    let no = sym c.in-Err.ensures in
     let none = (start-told a.text.now a.table.now a.wire).0 _ no in record { result_value = sym ((part-told a.text.now a.table.now a.wire).0 _ no); ref_ptr_value = (refl, add_comm 0 a.text.ref_ptr.1 ∙ ap (λ (k : ℕ). a.text.ref_ptr.1 + k) (sym none)) }

@@ -1,7 +1,5 @@
 -- `revolving::top_wire` meets its contract: the count at `low` is at most the rank and that at `high` above it, until the two are neighbours.
-use Prim.Native.Nat.{◌≤◌, ◌<◌, ◌-◌}
 use borrow.Author.Rules.{rules}
-use Rattle.counts.specs.Counts.{binom}
 use Rattle.revolving.proofs.Unranking.{top_start, top_found}
 use Rattle.revolving.proofs.top_wire.Goals as goal
 

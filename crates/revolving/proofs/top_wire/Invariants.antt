@@ -1,7 +1,5 @@
 use Prim.Native.Nat.{◌≤◌, ◌<◌, ◌-◌}
-use borrow.Author.Rules.{rules}
 use Rattle.counts.specs.Counts.{binom}
-use Rattle.revolving.proofs.Unranking.{top_start, top_found}
 use Rattle.revolving.proofs.top_wire.Given as goal
 
 abbrev pub invariant-loop-high : goal.invariant-loop-high

@@ -12,8 +12,8 @@ returns-then-size-eq0 c = record { from_le_rank = (le_refl _, c.requires.wires_v
 pub bounds-probes-0 : goal.bounds-probes-0
 bounds-probes-0 c = omega (arith, c.if-size-eq0.false, c.requires.wires_value.3)
 
-pub steps_of_lowest-requires : goal.steps_of_lowest-requires
-steps_of_lowest-requires c = steps_ask _ _ _ c.args.probes.now c.requires.stands.here (omega (arith, c.requires.wires_value.4, c.requires.wires_value.5)) c.if-size-eq0.false
+pub steps_of_lowest-steps-requires : goal.steps_of_lowest-steps-requires
+steps_of_lowest-steps-requires c = steps_ask _ _ _ c.args.probes.now c.requires.stands.here (omega (arith, c.requires.wires_value.4, c.requires.wires_value.5)) c.if-size-eq0.false
 
 pub overflow_sub-to : goal.overflow_sub-to
 overflow_sub-to c = omega (arith, c.requires.wires_value.4)
@@ -22,14 +22,14 @@ pub overflow_sub-to-2 : goal.overflow_sub-to-2
 overflow_sub-to-2 c = omega (arith, c.requires.wires_value.4)
 
 pub overflow_add-last : goal.overflow_add-last
-overflow_add-last c = omega (arith, c.least.ensures.1, c.requires.wires_value.4)
+overflow_add-last c = omega (arith, c.min.ensures, c.requires.wires_value.4)
 
 pub loop-rank-init : goal.loop-rank-init
 loop-rank-init c =
     let start = c.requires in (
-      passing_start c.args.notion _ _ _ _ _ _ _ _ _ start.wires_value.4 start.stands c.least.ensures.0 c.steps_of_lowest.ensures,
+      passing_start c.args.notion _ _ _ _ _ _ _ _ _ start.wires_value.4 start.stands (omega (arith, c.min.ensures)) c.steps_of_lowest-steps.ensures,
       refl,
-      omega (arith, c.least.ensures.1, start.wires_value.4),
+      omega (arith, c.min.ensures, start.wires_value.4),
     )
 
 pub sum_breaks-requires : goal.sum_breaks-requires

@@ -1,21 +1,17 @@
 -- `sets_by_size::total` meets its contract: before each turn the numbers so far are added.
 use Prim.Native.Nat.{ℕ, ◌+◌}
+use native.Mathlib.Omega.{arith}
 use mathlib.Core.Path.{◌∙◌, ap}
 use lib.ListN.{get_or}
-use lib.Seq.{take_all}
-use Rattle.sets_by_size.specs.Counted.{capped, total_of}
-use Rattle.sets_by_size.proofs.Totals.{total_more}
-use borrow.Author.Rules.{rules}
+use Rattle.sets_by_size.specs.Counted.{capped}
+use Rattle.sets_by_size.proofs.Totals.{min_capped, total_more}
 use Rattle.sets_by_size.proofs.total.Goals as goal
 
-pub loop-i-preserved : goal.loop-i-preserved
-loop-i-preserved c =
-    let a = c.args in
-    let l = c.loop-i in
-    (search rules, c.sum_or_most-all.ensures ∙ ap (λ (n : ℕ). capped (n + get_or a.sets.now l.i 0)) l.invariant.1 ∙ total_more a.sets.now l.i (search rules))
-
-pub returns : goal.returns
-returns c =
-    let a = c.args in
-    let l = c.loop-i in
-    l.invariant.1 ∙ ap total_of (take_all l.i a.sets.now (search rules))
+pub loop-count-preserved : goal.loop-count-preserved
+loop-count-preserved c =
+    let l = c.loop-count in
+    let next = get_or c.args.sets.now l.count-index 0 in
+    c.saturating_add-all.ensures
+    ∙ min_capped (l.all + next)
+    ∙ ap (λ (n : ℕ). capped (n + next)) l.invariant
+    ∙ total_more c.args.sets.now l.count-index (omega arith)

@@ -1,16 +1,11 @@
--- `table_calls::range_check` meets its contract: each answer tells its number or its values, which mean what the answer means.
-use borrow.Author.Rules.{rules}
-use Rattle.call_answers.proofs.Judging.{range_clean, range_found, range_refused}
+-- `table_calls::range_check` meets its contract: of a set that was found its numbers mean what the answer means.
+use mathlib.Core.Path.{refl}
+use Rattle.call_answers.proofs.Judging.{range_found}
 use Rattle.table_calls.proofs.range_check.Goals as goal
 
-pub returns-in-Refused : goal.returns-in-Refused
-returns-in-Refused c =
-    let e = c.range_check-answer.ensures in let all = range_refused _ _ _ _ _ _ _ _ _ _ e.set_after e.range_finds _ _ _ _ _ c.in-Refused.is c.number.ensures in record { set_after = all.0; kept = all.1.0; range_shows = all.1.1 }
-
-pub returns-in-Clean : goal.returns-in-Clean
-returns-in-Clean c =
-    let e = c.range_check-answer.ensures in let all = range_clean _ _ _ _ _ _ _ _ _ _ e.set_after e.range_finds _ _ _ c.in-Clean.is in record { set_after = all.0; kept = all.1.0; range_shows = all.1.1 }
-
-pub returns-in-Found : goal.returns-in-Found
-returns-in-Found c =
-    let e = c.range_check-answer.ensures in let all = range_found _ _ _ _ _ _ _ _ _ _ e.set_after e.range_finds _ _ _ _ _ c.in-Found.is in record { set_after = all.0; kept = all.1.0; range_shows = all.1.1 }
+pub returns-in-Ok-Found-clause-range_shows : goal.returns-in-Ok-Found-clause-range_shows
+returns-in-Ok-Found-clause-range_shows c =
+    let e = c.in-Ok-Found.ensures in
+    let told = rw c.in-Ok-Found.field-0-is at e.set_after in
+    let finds = rw c.in-Ok-Found.field-0-is at e.range_finds in
+    (range_found _ _ _ _ _ _ _ _ _ _ told finds c.args.clean.now c.args.found.now c.args.rank.now _ _ refl).1.1

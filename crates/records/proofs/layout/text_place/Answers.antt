@@ -1,7 +1,6 @@
 -- `records::layout::text_place` meets its contract: the bytes read are the last five of the record.
 use mathlib.Core.Path.{refl}
 use Rattle.records.proofs.Fields.{place_fields}
-use borrow.Author.Rules.{rules}
 use Rattle.records.proofs.layout.text_place.Goals as goal
 
 pub returns : goal.returns

@@ -1,7 +1,6 @@
 -- `records::sums::is_outer` meets its contract: the byte read is byte 18 of the wire's record.
 use Prim.Native.Nat.{ℕ}
 use mathlib.Core.Path.{ap}
-use borrow.Author.Rules.{rules}
 use lib.Dec.{eqb}
 use Rattle.records.proofs.Adding.{outer_byte}
 use Rattle.records.proofs.sums.is_outer.Goals as goal

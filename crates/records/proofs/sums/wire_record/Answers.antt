@@ -1,6 +1,5 @@
 -- `records::sums::wire_record` meets its contract: the words read are the fields of the wire's record.
 use mathlib.Core.Path.{refl}
-use borrow.Author.Rules.{rules}
 use Rattle.records.proofs.Adding.{words_of_record}
 use Rattle.records.proofs.sums.wire_record.Goals as goal
 

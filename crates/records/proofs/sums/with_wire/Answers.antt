@@ -1,6 +1,5 @@
 -- `records::sums::with_wire` meets its contract: the words read are the fields of the wire's record, and they are added bit by bit.
 use mathlib.Core.Path.{refl}
-use borrow.Author.Rules.{rules}
 use Rattle.records.proofs.Adding.{record_added}
 use Rattle.records.proofs.sums.with_wire.Goals as goal
 

@@ -2,5 +2,5 @@
 use Rattle.std.proofs.Common.{◌≤◌, length}
 use Rattle.report.proofs.breaks.wires_of.Given as goal
 
-abbrev pub invariant-loop-i : goal.invariant-loop-i
-invariant-loop-i l = (l.numbers.size ≤ length l.set) × (l.numbers.wire ≤ 65536)
+abbrev pub invariant-loop-byte : goal.invariant-loop-byte
+invariant-loop-byte l = l.numbers.size ≤ length l.set

@@ -1,10 +1,8 @@
 -- `table::tests::records_fit` meets its contract: no record before the present one is wrong.
-use Prim.Native.Nat.{ℕ, zero-le}
-use native.Mathlib.Omega.{arith}
 use mathlib.Core.Path.{refl, sym, ◌∙◌, ap}
 use mathlib.Core.Bool.{not}
 use borrow.Author.Tests.{not-true, not-false}
-use Rattle.basics.specs.Folds.{some, up_to}
+use Rattle.basics.specs.Folds.{up_to}
 use Rattle.basics.proofs.Folds.{some_at, none_more}
 use Rattle.table.specs.Answers.{wrong_record}
 use Rattle.records.specs.Layout.{record_at}
@@ -12,10 +10,7 @@ use Rattle.table.proofs.tests.records_fit.Goals as goal
 
 pub loop-wire-init : goal.loop-wire-init
 unfolding up_to
-loop-wire-init c = (zero-le, refl)
-
-pub record_fits-requires : goal.record_fits-requires
-record_fits-requires c = c.loop-wire-test.true
+loop-wire-init c = refl
 
 pub returns-then-not-record_fits : goal.returns-then-not-record_fits
 returns-then-not-record_fits c =
@@ -27,17 +22,6 @@ returns-then-not-record_fits c =
 
 pub loop-wire-preserved : goal.loop-wire-preserved
 loop-wire-preserved c =
-    let a = c.args in (
-      omega (arith, c.loop-wire-test.true),
-      none_more _ (λ w. wrong_record a.shares a.masks (record_at a.table.now w))
-          c.loop-wire.invariant.1 (not-true _ (sym c.record_fits.ensures ∙ c.if-not-record_fits.false)),
-    )
-
-pub returns : goal.returns
-returns c =
     let a = c.args in
-    sym
-    (ap not
-    (ap (λ (n : ℕ). some (λ w. wrong_record a.shares a.masks (record_at a.table.now w)) (up_to n))
-    (omega (arith, c.loop-wire-test.false, c.loop-wire.invariant.0))
-    ∙ c.loop-wire.invariant.1))
+    none_more _ (λ w. wrong_record a.shares a.masks (record_at a.table.now w))
+    c.loop-wire.invariant (not-true _ (sym c.record_fits.ensures ∙ c.if-not-record_fits.false))

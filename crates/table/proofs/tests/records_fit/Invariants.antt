@@ -1,4 +1,3 @@
-use Prim.Native.Nat.{◌-◌, ◌≤◌}
 use mathlib.Core.Path.{◌≡◌}
 use mathlib.Core.Bool.{false}
 use Rattle.basics.specs.Folds.{some, up_to}
@@ -7,7 +6,4 @@ use Rattle.records.specs.Layout.{record_at}
 use Rattle.table.proofs.tests.records_fit.Given as goal
 
 abbrev pub invariant-loop-wire : goal.invariant-loop-wire
-invariant-loop-wire l = (l.wire ≤ l.count) × (some (λ w. wrong_record l.shares l.masks (record_at l.table w)) (up_to l.wire) ≡ false)
-
-abbrev pub decreases-loop-wire : goal.decreases-loop-wire
-decreases-loop-wire l = l.count - l.wire
+invariant-loop-wire l = some (λ w. wrong_record l.shares l.masks (record_at l.table w)) (up_to l.wire) ≡ false

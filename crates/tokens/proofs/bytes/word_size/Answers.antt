@@ -1,30 +1,17 @@
--- `tokens::bytes::word_size` meets its contract: before each turn the symbol has the bytes passed and those of the run from the present
--- place on.
-use mathlib.Core.Path.{refl, sym, ◌∙◌}
-use borrow.Author.Rules.{rules}
-use Rattle.tokens.proofs.Runs.{word_stops, word-goes_on, word-ends}
+-- `tokens::bytes::word_size` meets its contract: the bytes before the first that parts are the symbol's.
+use Rattle.std.proofs.Common.{◌≡◌, ◌∙◌, ap, ℕ, ◌-◌, List, length, take, drop, Option}
+use Rattle.std.specs.Prelude.{unwrap_or}
+use Rattle.std.proofs.lemmas.List.{take_all, length-drop}
+use native.Mathlib.Omega.{arith}
+use Rattle.description.specs.Bytes.{word}
+use Rattle.tokens.proofs.Runs.{word_position}
 use Rattle.tokens.proofs.bytes.word_size.Goals as goal
-
-pub loop-end-init : goal.loop-end-init
-loop-end-init c = (search rules, search rules, refl)
-
-pub returns-then-is_parting : goal.returns-then-is_parting
-returns-then-is_parting c =
-    let a = c.args in
-    let l = c.loop-end in
-    word_stops a.text.now a.at l.end l.invariant.2 c.loop-end-test.true
-    (sym c.is_parting.ensures ∙ c.if-is_parting.true)
-
-pub loop-end-preserved : goal.loop-end-preserved
-loop-end-preserved c =
-    let a = c.args in
-    let l = c.loop-end in (
-      search rules,
-      search rules,
-      word-goes_on a.text.now a.at l.end l.invariant.2 c.loop-end-test.true
-          (sym c.is_parting.ensures ∙ c.if-is_parting.false),
-    )
 
 pub returns : goal.returns
 returns c =
-    let a = c.args in word-ends a.text.now a.at c.loop-end.end c.loop-end.invariant.2 c.loop-end-test.false
+    let text = c.args.text.now in
+    let at = c.args.at in
+    let rest = take (length text - at) (drop at text) in
+    let whole : rest ≡ drop at text = take_all _ _ (omega (arith, length-drop at text)) in
+    c.unwrap_or.ensures ∙ ap (λ (r : Option ℕ). unwrap_or r (length rest)) c.first_parting-parting.ensures ∙ word_position rest
+    ∙ ap (λ (l : List ℕ). length (word l)) whole

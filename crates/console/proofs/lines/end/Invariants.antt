@@ -1,9 +1,0 @@
--- `console::lines::end` never passes the text's end.
-use Rattle.std.proofs.Common.{◌≤◌, ◌-◌, length}
-use Rattle.console.proofs.lines.end.Given as goal
-
-abbrev pub invariant-loop-end : goal.invariant-loop-end
-invariant-loop-end l = (l.at ≤ l.end) × (l.end ≤ length l.text)
-
-abbrev pub decreases-loop-end : goal.decreases-loop-end
-decreases-loop-end l = length l.text - l.end

@@ -1,3 +1,0 @@
--- The lemmas behind `rarity`.
---     Masks     which masks a sum has
-pub mod Masks
