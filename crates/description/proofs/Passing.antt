@@ -5,7 +5,7 @@
 --     at_opening, too_deep       at a parenthesis opened
 --     at_closing, not_open, nothing-inside     at a parenthesis closed
 --     at_bar                     at a bar
---     at_symbol, at_fault        at a byte of a symbol, of a run of bytes that is none to take
+--     at_symbol, no_such, not_declared         at a byte of a symbol; `at_fault`: of a run of bytes that is none to take
 --     open_at_end, few_at_end, done_at_end     at the text's end: a parenthesis still open, lines too few, neither
 use Rattle.std.specs.Prelude.{Result, Ok, Err}
 use Prim.Native.Nat.{ℕ, ◌+◌, ◌-◌, ◌≤◌, ◌<◌}
@@ -22,7 +22,8 @@ use Rattle.description.specs.Run.{State, Around, done, refused, run_at, finish, 
 use Rattle.description.specs.Run.{go, stop, step, line_step, line_done, close_step, symbol_refusal, symbol_step}
 use Rattle.wires.specs.declared.Symbol.{Symbol}
 use Rattle.description.specs.declared.SymbolFault.{SymbolFault}
-use Rattle.description.specs.declared.Refusal.TheVariants.{WrongParenthesis, Bar, NestedTooDeep, WrongLineCount}
+use Rattle.description.specs.declared.SymbolFault.TheVariants.{NoSuch, NotDeclared}
+use Rattle.description.specs.declared.Refusal.TheVariants.{NoSuchSymbol, MaskNotDeclared, WrongParenthesis, Bar, NestedTooDeep, WrongLineCount}
 use Rattle.description.proofs.Running.{drop_byte, run-go, run-stop, run_end}
 use Rattle.description.proofs.Places.{word-inside}
 use Rattle.description.proofs.Steps.{step-space, step_line, step_over, step_open, step-bar, step_close, step-symbol}
@@ -115,6 +116,12 @@ module _ (shares declared : ℕ) (text : List ℕ) (p : ℕ) (s : State) (inside
       pub at_fault : (fault : SymbolFault) → symbol_read shares declared (word (drop p text)) ≡ Err fault
           → run_at shares declared text p s ≡ refused (symbol_refusal fault) p
       at_fault fault e = run-stop shares declared text p s inside (symbol_refusal fault) (symbol-step (Err fault) e)
+
+      pub no_such : symbol_read shares declared (word (drop p text)) ≡ Err NoSuch → run_at shares declared text p s ≡ refused NoSuchSymbol p
+      no_such e = at_fault NoSuch e
+
+      pub not_declared : symbol_read shares declared (word (drop p text)) ≡ Err NotDeclared → run_at shares declared text p s ≡ refused MaskNotDeclared p
+      not_declared e = at_fault NotDeclared e
 
 -- the text's end is a line's end
 module _ (shares declared : ℕ) (text : List ℕ) (p : ℕ) (s : State) (outside : length text ≤ p) where
