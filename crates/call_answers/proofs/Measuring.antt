@@ -128,7 +128,7 @@ module _ (text buffer : List ℕ) where
             record {
               figures = λ zero. absurd (omega (arith, s, zero, positive));
               past_kept = λ zero. absurd (omega (arith, s, zero, positive));
-              refuses = λ no other. subst (λ (n : ℕ). Refuses text n fault.offset) (sym s) says;
+              refuses = λ no other. subst (λ (n : ℕ). Refuses text n fault.offset) (sym s) says.0;
               offset-kept = ⊎_elim (λ is. absurd (omega (arith, s, is, positive))) (λ is. absurd (omega (arith, s, is, small)));
               short-exactly = (
                 λ is. absurd (omega (arith, s, is, small)),

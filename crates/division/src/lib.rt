@@ -6,7 +6,7 @@ ghost use Rattle.std.specs.Prelude.{◌≡◌, ◌≤◌, ◌<◌};
 ghost use Rattle.division.specs.Answers.{job_told, job_ranks, max_jobs};
 ghost use Rattle.division.specs.Division.{start};
 
-use sets::Refusal;
+pub use sets::Refusal;
 
 pub const MAX_JOBS: u64 = 65536;
 

@@ -63,11 +63,18 @@ pub fn note(reports: &[u8], i: usize, size: usize, reach: u64, ahead: &mut [Ahea
     if ahead[WINDOW - 1].start <= start {
         return;
     }
-    let place = ahead.partition_point(|kept| kept.start <= start);
-    if place < WINDOW {
-        ahead[place..WINDOW].rotate_right(1);
-        ahead[place] = Ahead { start, report: i };
+    // Those that start later move to the next place, from the last on, which is forgotten.
+    // kept: (speed) one loop looks and moves; near the end a search before it takes longer than the moves, and to move all at once an archive for C needs
+    // `memmove` from outside (docs/LOOK-BACK.md)
+    let noted = Ahead { start, report: i };
+    for place in (1..WINDOW).rev() {
+        if ahead[place - 1].start <= start {
+            ahead[place] = noted;
+            return;
+        }
+        ahead[place] = ahead[place - 1];
     }
+    ahead[0] = noted;
 }
 
 // How far the ranks are covered with the reports kept in mind, nearest first.

@@ -26,6 +26,7 @@ pub trait Search {
 }
 
 // Set by set in the published order.
+#[derive(Clone, Copy)]
 pub struct Walk;
 
 impl Search for Walk {
@@ -35,6 +36,7 @@ impl Search for Walk {
 }
 
 // Directed by the masks.
+#[derive(Clone, Copy)]
 pub struct Directed;
 
 impl Search for Directed {

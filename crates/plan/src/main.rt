@@ -36,7 +36,7 @@ fn plan(rt: &impl Print, notes: &impl Print, reader: &mut impl Read, rate: u64)
     requires { 0 < rate }
 {
     let mut text = [0u8; INPUT_BYTES];
-    if let Some(length) = read_input(reader, notes, "plan: standard input", &mut text) {
+    if let Ok(length) = read_input(reader, notes, "plan: standard input", &mut text) {
         answer(rt, notes, &text[..length], rate);
     }
 }

@@ -99,13 +99,15 @@ module _ (text : List ℕ) where
       ap₂ (λ (t : SizeTold) (l : List ℕ). record { told = t; sets = l })
       (same-figures a.sets a'.sets a.order a.shares a.masks a.wires a.bytes a'.order a'.shares a'.masks a'.wires a'.bytes f.0 g.0)
       (same-sets a.sets a'.sets a.order a.shares a.masks a.wires a.bytes a'.order a'.shares a'.masks a'.wires a'.bytes f.0 g.0 f.1 g.1 f.2 g.2)
-  says_once (Ok a) (Err e) f g = absurd (not_both a.sets a.order a.shares a.masks a.wires a.bytes (refusal_number e.why) e.offset f.0 g)
-  says_once (Err e) (Ok a) f g = absurd (not_both a.sets a.order a.shares a.masks a.wires a.bytes (refusal_number e.why) e.offset g.0 f)
+  says_once (Ok a) (Err e) f g = absurd (not_both a.sets a.order a.shares a.masks a.wires a.bytes (refusal_number e.why) e.offset f.0 g.0)
+  says_once (Err e) (Ok a) f g = absurd (not_both a.sets a.order a.shares a.masks a.wires a.bytes (refusal_number e.why) e.offset g.0 f.0)
   says_once (Err e) (Err e') f g =
-      let both = sym (f.whatever []) ∙ g.whatever [] in
+      let both = sym (f.0.whatever []) ∙ g.0.whatever [] in
       let x : refusal_number e.why ≡ refusal_number e'.why = cc in
       let y : e.offset ≡ e'.offset = cc in
-      ap₂ (λ (n place : ℕ). record { told = refused n place; sets = replicate max_order 0 }) x y
+      let same : refused (refusal_number e.why) e.offset ≡ refused (refusal_number e'.why) e'.offset = ap₂ refused x y in
+      ap₂ (λ (t : SizeTold) (l : List ℕ). record { told = t; sets = l }) same
+      (ext_get_or 0 (size_told (Err e)).sets (size_told (Err e')).sets (f.1 ∙ sym g.1) (λ k inside. f.2 k ∙ sym (g.2 k)))
 
   pub says_told : (a : Result CheckSize Fault) → SizeSays a text → size_told a ≡ check_size text
   says_told a says = go (tableless text (reading text)) refl
@@ -124,7 +126,7 @@ module _ (text : List ℕ) where
   pub never_ten : (why : Refusal) (offset : ℕ) → SizeSays (down why offset) text → refusal_number why ≡ 10
       → (d : Description) → Spells text d → max_wires < length (wires_of d)
   never_ten why offset says ten d spells =
-      let o = says.ten.0 ten in
+      let o = says.0.ten.0 ten in
       let e = spelled-read text o.description o.spells o.limits in
       let limits = spelled-limits text o.description.order (mask_count o.description.names) (wires_of o.description) e d spells in
       let both = sym e ∙ spelled-read text d spells limits in
@@ -133,4 +135,4 @@ module _ (text : List ℕ) where
 
   pub many-ten : (why : Refusal) (offset : ℕ) → SizeSays (down why offset) text
       → (d : Description) → Spells text d → Limits text d → max_wires < length (wires_of d) → refusal_number why ≡ 10
-  many-ten why offset says d spells limits many = says.ten.1 (record { description = d; spells = spells; limits = limits; many = many })
+  many-ten why offset says d spells limits many = says.0.ten.1 (record { description = d; spells = spells; limits = limits; many = many })

@@ -11,7 +11,7 @@ use mathlib.Core.Bool.{Bool, true, false, cond}
 use mathlib.Core.List.{List}
 use borrow.Author.Tests.{ltb-true, lt-ltb, le-ltb}
 use lib.Dec.{ltb}
-use lib.ListN.{length}
+use lib.ListN.{length, length-replicate}
 use Rattle.limits.specs.Limits.{max_order, max_wires, max_size, max_table_bytes, record_bytes}
 use Rattle.counts.specs.Counts.{binom}
 use Rattle.description.specs.Run.{Reading, read, turned_down, reading, refusal_number}
@@ -30,7 +30,7 @@ use Rattle.plan_text.specs.Says.{OverMany, Figures, SizeSays}
 use Rattle.std.specs.Prelude.{Result, Ok, Err}
 use Rattle.description.specs.declared.Fault.{Fault}
 use Rattle.plan_text.specs.declared.CheckSize.{CheckSize}
-use Rattle.sets_by_size.proofs.Counting.{counted-length, counted_at, counted-rest}
+use Rattle.sets_by_size.proofs.Counting.{counted-length, counted_at, counted-rest, zeros}
 use Rattle.plan_text.proofs.Ten.{Low, below-ten}
 
 -- the two answers, by what stands in them
@@ -93,8 +93,11 @@ module _ (text : List ℕ) where
           ap refusal_number same
 
   pub refused_says : (why : Refusal) (offset : ℕ) → tableless text (reading text) ≡ turned_down why offset → SizeSays (down why offset) text
-  refused_says why offset e =
-      record { whatever = λ table. ap (λ (l : ReadLent). l.told) (tableless_down text table why offset e); ten = over_many why offset e }
+  refused_says why offset e = (
+    record { whatever = λ table. ap (λ (l : ReadLent). l.told) (tableless_down text table why offset e); ten = over_many why offset e },
+    length-replicate {A = ℕ} max_order 0,
+    zeros max_order,
+  )
 
 -- ---- the paths of the entry
 

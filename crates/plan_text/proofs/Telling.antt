@@ -105,14 +105,14 @@ module _ (text : List ℕ) where
     -- "a text that reading turns down gets its number and offset"
     pub told-refused : (table : List ℕ) → (read_text text table).told ≡ reader.refused number offset
     told-refused table =
-        (refused_says text down.why offset down.outcome).whatever table ∙ ap (λ (n : ℕ). reader.refused n offset) (sym down.same_number)
+        (refused_says text down.why offset down.outcome).0.whatever table ∙ ap (λ (n : ℕ). reader.refused n offset) (sym down.same_number)
 
     pub refused-sets : (check_size text).sets ≡ replicate max_order 0
     refused-sets = ap (λ (r : Reading). (size_of r).sets) down.outcome
 
     -- "10 here only for over 512 wires"
     pub told-ten : number ≡ 10 → OverMany text
-    told-ten ten = (refused_says text down.why offset down.outcome).ten.0 (sym down.same_number ∙ ten)
+    told-ten ten = (refused_says text down.why offset down.outcome).0.ten.0 (sym down.same_number ∙ ten)
 
   -- and for all of these
   pub told-many : (d : Description) → Spells text d → Limits text d → max_wires < length (wires_of d) → (check_size text).told ≡ refused 10 (length text)

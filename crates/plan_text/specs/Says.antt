@@ -13,6 +13,7 @@ use Rattle.description.specs.Grammar.{Description, Spells, Limits, wires_of}
 use Rattle.reader.specs.Answers.{gives, refused, read_text}
 use Rattle.description.specs.declared.Fault.{Fault}
 use Rattle.plan_text.specs.declared.CheckSize.{CheckSize}
+use Rattle.plan_text.specs.Answers.{size_told}
 
 pub record OverMany (text : List ℕ) : Type 0 where
   pub description : Description
@@ -36,4 +37,7 @@ SizeSays (Ok size) text =
     Figures text size.sets size.order size.shares size.masks size.wires size.bytes
     × (length size.sets ≡ max_order)
     × ((k : ℕ) → size.order ≤ k → get_or size.sets k 0 ≡ 0)
-SizeSays (Err fault) text = Refuses text (refusal_number fault.why) fault.offset
+SizeSays (Err fault) text =
+    Refuses text (refusal_number fault.why) fault.offset
+    × (length (size_told (Err fault)).sets ≡ max_order)
+    × ((k : ℕ) → get_or (size_told (Err fault)).sets k 0 ≡ 0)

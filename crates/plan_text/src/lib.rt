@@ -7,7 +7,7 @@ ghost use Rattle.std.specs.Prelude.{◌≡◌};
 ghost use Rattle.plan_text.specs.Answers.{size_told, check_size};
 ghost use Rattle.plan_text.specs.Says.{SizeSays};
 
-use description::Fault;
+pub use description::Fault;
 use limits::{MAX_ORDER, MAX_TABLE_BYTES, RECORD_BYTES};
 use scratch_reader::read_scratch;
 use sets_by_size::set_counts;
@@ -40,4 +40,14 @@ pub fn check_size(text: &[u8]) -> Result<CheckSize, Fault>
         bytes: RECORD_BYTES * read.wires,
         sets: set_counts(read.wires, read.order),
     })
+}
+
+// The numbers of sets that an answer tells. A text that is turned down has no sets: each of the seven numbers is 0.
+pub fn sets_told(answer: Result<CheckSize, Fault>) -> [u64; MAX_ORDER]
+    ensures { result ≡ (size_told answer).sets }
+{
+    match answer {
+        Ok(size) => size.sets,
+        Err(_) => [0; MAX_ORDER],
+    }
 }

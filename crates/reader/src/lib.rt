@@ -1,13 +1,14 @@
 // The reader of descriptions, and the text part of a wire (scope, "The description text", "Wires" and "What each operation turns down").
 // Every argument may be anything its type holds: what is out of range is refused, in the scope's order, and a refusal alters no lent byte.
-// The type of what a text that was read gives is passed on from `scratch_reader`.
+// The type of what a text that was read gives is passed on from `scratch_reader`, that of what is wrong with one from `description`.
 #![tactic(auto)]
 
 ghost use Rattle.std.specs.Prelude.{◌≡◌, ◌≤◌, ◌+◌, length, take, drop, ◌++◌};
 ghost use Rattle.reader.specs.Answers.{read_told, read_text, part_refusal_number, part_told, part_check, text_part, part_start};
 ghost use Rattle.reader.specs.Reads.{ReadsGrammar};
 
-use description::{Fault, Refusal};
+pub use description::Fault;
+use description::Refusal;
 use limits::{MAX_TABLE_BYTES, RECORD_BYTES};
 use records::layout::text_place;
 pub use scratch_reader::Reading;

@@ -20,7 +20,7 @@ fn main(rt: HostRuntime) {
     let notes = rt.stderr();
     let mut text = [0u8; INPUT_BYTES];
     let input = read_input(&mut rt.stdin(), &notes, "report: standard input", &mut text);
-    if let Some(length) = input {
+    if let Ok(length) = input {
         answer(&rt, &notes, &text[..length]);
     }
 }

@@ -7,10 +7,8 @@ const LONG: u64 = 1_000_000_000;
 
 // The sets of both notions that a check of the text has to answer for; of a text that is refused there are none.
 pub fn sets_to_look_at(text: &[u8]) -> u64 {
-    match plan_text::check_size(text) {
-        Ok(size) => sets_of_both(plan_text::total(&size.sets)),
-        Err(_) => 0,
-    }
+    let sets = plan_text::sets_told(plan_text::check_size(text));
+    sets_of_both(plan_text::total(&sets))
 }
 
 pub fn is_long(sets: u64) -> bool {

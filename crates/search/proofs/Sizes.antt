@@ -5,7 +5,8 @@
 --     all-smaller                     the same from every size in turn
 --     first_of_size                   what is found first in a size
 --     none_found, set_found           the result, where nothing was found and where a set was
---     size-told, none-told            what was found, as the verdict asks it
+--     size-told, none-told            what was found, as the verdict asks it: a set, and none
+--     sizes-told                      the same of whatever was found
 use Prim.Native.Nat.{ℕ, zero, suc, ◌+◌, ◌-◌, ◌≤◌, ◌<◌, zero-le}
 use native.Mathlib.Nat.{le_refl, not-suc-le-zero}
 use native.Mathlib.Numerals.{add-one}
@@ -15,7 +16,7 @@ use mathlib.Core.Bool.{Bool, true, false}
 use mathlib.Core.List.{List, [], ◌∷◌, ◌++◌, append_assoc, append-nil}
 use lib.ListN.{length, take}
 use lib.Seq.{take_all}
-use Rattle.std.specs.Prelude.{None, Some}
+use Rattle.std.specs.Prelude.{Option, None, Some}
 use Rattle.basics.specs.Folds.{keep}
 use Rattle.basics.proofs.Folds.{keep_append}
 use Rattle.basics.proofs.Numbers.{from_on}
@@ -140,3 +141,13 @@ module _ (test : List ℕ → Bool) (n : ℕ) where
     none-told f =
         none_found order (order + 1) held (omega arith) (omega arith)
         (all-smaller (order + 1) (omega arith) (λ k r a b c. f k r a (omega arith) zero-le (omega (arith, c, counted k (omega arith))) c))
+
+  -- the size of what was found
+  abbrev pub size_found : Option Found → Option ℕ
+  size_found None = None
+  size_found (Some found) = Some found.size
+
+  pub sizes-told : (order to : ℕ) (found : Option Found) (held : List ℕ) → ((k : ℕ) → k ≤ order → binom n k < to) → FirstFound test n 1 order 0 to found held
+      → FirstSet test (searched n order) (size_found found) held
+  sizes-told order to None held counted = none-told order to held counted
+  sizes-told order to (Some found) held counted = size-told order to held counted found
